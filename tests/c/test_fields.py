@@ -11,7 +11,7 @@ from tests.built import codec, number
 from tests.readers.extra import MORE, more_fields
 from tests.readers.headers import Fault, Header, sized
 from tests.readers.inputs import Maker
-from tests.readers.inspect import fields_of, own_texts
+from tests.readers.inspect import fields_of, own_texts, with_names
 from tests.readers.readers import READERS, read_row
 from tests.rows import rows
 
@@ -21,9 +21,9 @@ def read(own):
     header = Header(own, 0)
     header.size = len(own) - header.start
     if header.name in MORE:
-        return more_fields(header.name, own[header.start + 8:])
+        return with_names(more_fields(header.name, own[header.start + 8:]))
     box = read_row(own, header)
-    return fields_of(header.name, own_texts(header.name, box, own[header.start + 8:]))
+    return with_names(fields_of(header.name, own_texts(header.name, box, own[header.start + 8:])))
 
 
 class Fields(unittest.TestCase):

@@ -64,14 +64,24 @@ class Content:
 
     def bits(self, text):
         """Reads fields with the numbers of bits in `text`. A field whose name begins with `-` is put only if `raw` is
-        set, and is called `reserved` if no name follows the `-`."""
+        set, and is called `reserved` if no name follows the `-`. If its name ends with `=` and a number, it is also put
+        if it has another value."""
         widths = [(int(width), name) for width, name in map(str.split, text.split(","))]
         left = sum(width for width, _ in widths)
         value = self.number(left // 8)
         for width, name in widths:
             left -= width
-            if name[0] != "-" or self.raw:
-                self.put(name.removeprefix("-") or "reserved", value >> left & 2**width - 1)
+            found = value >> left & 2**width - 1
+            name, _, usual = name.partition("=")
+            if name[0] != "-" or self.raw or usual and found != int(usual):
+                self.put(name.removeprefix("-") or "reserved", found)
+
+    def named(self, meanings):
+        """Gives the numbers with the names in `meanings` the meanings that they have there."""
+        if not self.raw:
+            for name, names in meanings.items():
+                number = self.fields[name]
+                self.fields[name] = Named(number, names[number]) if number in names else number
 
     def full(self, versions):
         texts = {1: "version must be 0", 2: "version must be 0 or 1"}
@@ -107,18 +117,27 @@ class Content:
     def bytes(self, name):
         self.put(name, self.as_bytes(self.rest()))
 
-    def as_string(self, piece, end=b""):
-        """Returns the string in `piece` before `end`, with U+FFFD for what is not UTF-8."""
-        return list(piece) if self.raw else piece.removesuffix(end).decode("utf-8", "replace")
+    def as_string(self, piece):
+        """Returns the string `piece`, with U+FFFD for what is not UTF-8."""
+        return list(piece) if self.raw else piece.decode("utf-8", "replace")
+
+    def put_string(self, name, piece, end=b""):
+        """Puts the string in `piece` before `end`. If it isn't UTF-8, or `end` is missing, also puts its bytes, under
+        the name with `_hex` after it."""
+        text = piece.removesuffix(end)
+        self.put(name, list(piece) if self.raw else self.as_string(text))
+        is_text = text.decode("utf-8", "replace").encode() == text
+        if not self.raw and not (is_text and text + end == piece):
+            self.put(name.partition(" ")[0] + "_hex", Hex(piece.hex()))
 
     def string(self, name):
-        self.put(name, self.as_string(self.rest(), b"\0"))
+        self.put_string(name, self.rest(), b"\0")
 
     def terminated(self, name):
         """Reads a string that a byte of 0 ends, before the end of the box."""
         length = (self.data.find(b"\0", self.at) + 1 or len(self.data) + 1) - self.at
         check(length <= self.room(), "string has no end in the box")
-        self.put(name, self.as_string(self.take(length)[:-1]))
+        self.put_string(name, self.take(length)[:-1])
 
     def locale(self, name, number, letters):
         """Puts a part of a locale: `letters` if they are letters, and otherwise `number`, the number of a list. It puts
@@ -203,14 +222,36 @@ def av1c(c):
     c.bytes("configOBUs")
 
 
+# The meanings of the numbers of colours (ISO/IEC 23091-2, 8.1 to 8.3).
+COLOURS = {
+    "colour_primaries": {
+        1: "BT.709", 2: "unspecified", 4: "BT.470 System M", 5: "BT.470 System B, G", 6: "BT.601", 7: "SMPTE ST 240",
+        8: "generic film", 9: "BT.2020", 10: "SMPTE ST 428-1", 11: "SMPTE RP 431-2", 12: "SMPTE EG 432-1",
+        22: "EBU Tech. 3213-E"},
+    "transfer_characteristics": {
+        1: "BT.709", 2: "unspecified", 4: "BT.470 System M", 5: "BT.470 System B, G", 6: "BT.601", 7: "SMPTE ST 240",
+        8: "linear", 9: "logarithmic, 100:1", 10: "logarithmic, 316.22777:1", 11: "IEC 61966-2-4", 12: "BT.1361",
+        13: "IEC 61966-2-1", 14: "BT.2020, 10 bits", 15: "BT.2020, 12 bits", 16: "SMPTE ST 2084", 17: "SMPTE ST 428-1",
+        18: "ARIB STD-B67"},
+    "matrix_coefficients": {
+        0: "identity", 1: "BT.709", 2: "unspecified", 4: "FCC Title 47", 5: "BT.470 System B, G", 6: "BT.601",
+        7: "SMPTE ST 240", 8: "YCgCo", 9: "BT.2020 non-constant luminance", 10: "BT.2020 constant luminance",
+        11: "SMPTE ST 2085", 12: "chromaticity-derived non-constant luminance",
+        13: "chromaticity-derived constant luminance", 14: "ICtCp"},
+}
+
+
 def colr(c):
     kind = c.code("colour_type")
     if kind == "nclx":
-        c.bits("16 colour_primaries, 16 transfer_characteristics, 16 matrix_coefficients, 1 full_range_flag, 7 -")
+        c.bits("16 colour_primaries, 16 transfer_characteristics, 16 matrix_coefficients, 1 full_range_flag,"
+               "7 -reserved=0")
+        c.named(COLOURS)
         if c.raw:
             del c.fields["colour_type"]
     elif kind == "nclc" and len(c.data) == 10 and not c.raw:
         c.numbers("2 colour_primaries, 2 transfer_characteristics, 2 matrix_coefficients")
+        c.named(COLOURS)
     else:
         c.bytes("ICC_profile [data_bytes]" if kind in ("rICC", "prof") else "data_bytes")
 
@@ -220,6 +261,11 @@ def cslg(c):
     times = ("compositionToDTSShift", "leastDecodeToDisplayDelta", "greatestDecodeToDisplayDelta",
              "compositionStartTime", "compositionEndTime")
     c.numbers(",".join(f"i{8 if version else 4} {time}" for time in times))
+
+
+# The names of the types of metadata values (QuickTime File Format, "Well-known types").
+TYPES = {0: "binary", 1: "text", 2: "UTF-16 text", 13: "JPEG", 14: "PNG", 21: "signed integer", 22: "unsigned integer",
+         23: "32-bit float", 24: "64-bit float", 27: "BMP"}
 
 
 def data(c):
@@ -238,6 +284,7 @@ def data(c):
         c.put("text", c.as_string(value))
     else:
         c.put("data_bytes", c.as_bytes(value))
+    c.fields["data_type"] = Named(c.fields["data_type"], TYPES.get(c.fields["data_type"], "other"))
 
 
 def substream(s):
@@ -314,24 +361,29 @@ def hvcc(c):
            "32 general_profile_compatibility_flags, 48 general_constraint_indicator_flags, 8 general_level_idc")
     if not c.raw:
         c.fields["general_constraint_indicator_flags"] = Hex(f"{c.fields['general_constraint_indicator_flags']:012x}")
-    c.bits("4 -reserved_before_segmentation, 12 min_spatial_segmentation_idc, 6 -reserved_before_parallelism,"
-           "2 parallelismType, 6 -reserved_before_chroma_format, 2 chroma_format_idc, 5 -reserved_before_luma,"
-           "3 bit_depth_luma_minus8, 5 -reserved_before_chroma, 3 bit_depth_chroma_minus8")
+    c.bits("4 -reserved_before_segmentation=15, 12 min_spatial_segmentation_idc, 6 -reserved_before_parallelism=63,"
+           "2 parallelismType, 6 -reserved_before_chroma_format=63, 2 chroma_format_idc, 5 -reserved_before_luma=31,"
+           "3 bit_depth_luma_minus8, 5 -reserved_before_chroma=31, 3 bit_depth_chroma_minus8")
     c.numbers("2 avgFrameRate")
     c.bits("2 constantFrameRate, 3 numTemporalLayers, 1 temporalIdNested, 2 lengthSizeMinusOne")
     c.put("arrays", [c.entry(nal_units) for _ in range(c.number(1))])
 
 
+# The types of NAL units that an array may have (ISO/IEC 23008-2, Table 7-1).
+NAL_UNITS = {32: "VPS", 33: "SPS", 34: "PPS", 39: "prefix SEI", 40: "suffix SEI"}
+
+
 def nal_units(array):
     """Reads an array of NAL units of one type."""
-    array.bits("1 array_completeness, 1 -, 6 NAL_unit_type")
+    array.bits("1 array_completeness, 1 -reserved=0, 6 NAL_unit_type")
+    array.named({"NAL_unit_type": NAL_UNITS})
     units = [array.as_bytes(array.take(array.count(2, 1, "bytes"))) for _ in range(array.number(2))]
     array.put("nalUnit [nal_units]", units)
 
 
 def key(k):
     k.code("Key_namespace [namespace]")
-    k.string("Key_value [value]")
+    k.put_string("Key_value [value]", k.rest())
 
 
 def keys(c):
@@ -602,7 +654,7 @@ MORE = {
         "4 cleanApertureWidthN, 4 cleanApertureWidthD, 4 cleanApertureHeightN, 4 cleanApertureHeightD, i4 horizOffN,"
         "4 horizOffD, i4 vertOffN, 4 vertOffD"),
     "clli": lambda c: c.numbers("2 max_content_light_level, 2 max_pic_average_light_level"),
-    "dac3": lambda c: c.bits("2 fscod, 5 bsid, 3 bsmod, 3 acmod, 1 lfeon, 5 bit_rate_code, 5 -"),
+    "dac3": lambda c: c.bits("2 fscod, 5 bsid, 3 bsmod, 3 acmod, 1 lfeon, 5 bit_rate_code, 5 -reserved=0"),
     "frma": lambda c: c.code("data_format"), "nmhd": lambda c: c.full(1),
     "pasp": lambda c: c.numbers("4 hSpacing, 4 vSpacing"), "tref": tref,
 }

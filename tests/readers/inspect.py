@@ -23,9 +23,6 @@ FIXED = {"rate": 16, "volume": 8, "width": 16, "height": 16, "horizresolution": 
 SIGNED = {"rate": 32, "volume": 16, "layer": 16, "alternate_group": 16, "media_rate": 16, "media_rate_fraction": 16}
 MATRIX = {"a": 16, "b": 16, "u": 30, "c": 16, "d": 16, "v": 30, "x": 16, "y": 16, "w": 30}
 UNITY = {"a": 1, "b": 0, "u": 0, "c": 0, "d": 1, "v": 0, "x": 0, "y": 0, "w": 1}
-TYPES = {0: "binary", 1: "text", 2: "UTF-16 text", 13: "JPEG", 14: "PNG", 21: "signed integer", 22: "unsigned integer",
-         23: "32-bit float", 24: "64-bit float", 27: "BMP"}
-NAL_UNITS = {32: "VPS", 33: "SPS", 34: "PPS", 39: "prefix SEI", 40: "suffix SEI"}
 
 
 def number(data, at, length):
@@ -283,11 +280,27 @@ def tree(data):
     return Walk(data).boxes
 
 
+def with_names(value):
+    """Returns `value` with the meaning of each number that has one, under the number's name with `_name` after it."""
+    if isinstance(value, list):
+        return [with_names(entry) for entry in value]
+    if not isinstance(value, dict):
+        return value
+    found = {}
+    for name, inner in value.items():
+        found[name] = with_names(inner)
+        if isinstance(inner, Named):
+            found[name + "_name"] = inner.name
+    return found
+
+
 def plain(boxes):
     """Returns the boxes without the keys that the JSON doesn't have."""
     found = []
     for box in boxes:
         box = {key: value for key, value in box.items() if key not in ("deep", "cut")}
+        if "fields" in box:
+            box["fields"] = with_names(box["fields"])
         if "children" in box:
             box["children"] = plain(box["children"])
         found.append(box)
@@ -411,10 +424,6 @@ def value_text(name, value, within):
         return flags_text(value, 8, {})
     if name == "media_time":
         return "empty" if value == -1 else str(value)
-    if name == "data_type":
-        return f"{value} ({TYPES.get(value, 'other')})"
-    if name == "NAL_unit_type":
-        return f"{value} ({NAL_UNITS.get(value, 'other')})"
     if name in ("major_brand", "handler_type"):
         return code_text(value)
     if name == "compatible_brands":

@@ -1,8 +1,8 @@
 """Adds a box in a copy, by the steps of docs/internals/MAP.md, reads and writes it there as tests/rows does, and shows
 it by mp4inspect.
 
-The box is `padb`, the padding bits of samples (ISO/IEC 14496-12, 8.7.6). Its own file, the functions that show its
-fields and read them in the slow reader, and its rows are below. In each other file of the crates its lines are copies
+The box is `padb`, the padding bits of samples (ISO/IEC 14496-12, 8.7.6). Its own file, the function that reads its
+fields in the slow reader, and its rows are below. In each other file of the crates its lines are copies
 of the lines of an existing box, with the names of the new one. A file that the page doesn't name is left unchanged, so
 a step that is missing there fails here. The test proves nothing, and takes some minutes.
 
@@ -27,7 +27,7 @@ NEW = "padb"
 # The box whose lines are copied.
 LIKE = "mfro"
 # The largest number of lines of code and definitions that a box of a few numbers may take.
-MOST = 60
+MOST = 70
 # The function of the slow reader that reads the fields.
 READER = '''def padb(c):
     c.full(1)
@@ -39,11 +39,15 @@ READER = '''def padb(c):
 BOX = '''//! The padding bits box.
 
 ghost use Rattle.mp4_declared.specs.OwnBox.{layout_of};
+ghost use Rattle.mp4_extra_segments.specs.declared.padb.TheConstants.{NAMES};
 ghost use Rattle.mp4_frame.specs.declared.codes.TheConstants as codes;
 ghost use Rattle.std.proofs.Common.{refl, lit<};
 
 use mp4_declared::declaring::*;
 use mp4_frame::{Result, codes};
+use mp4_shown::{
+    FLAGS, FieldSink, HasFields, NamedShape, ShowShape, VERSION, View, names_of, number, run,
+};
 
 /// The padding bits at the end of each sample (`padb`, ISO/IEC 14496-12, 8.7.6).
 #[derive(Debug, Drop, PartialEq, Eq)]
@@ -85,6 +89,25 @@ impl DeclaredBox for Padb {
     ghost valid = { refl };
 }
 
+/// The names of the fields.
+const NAMES: <PadbShape as NamedShape>::Names = names_of!(
+    VERSION,
+    FLAGS,
+    number!("sample_count"),
+    run!("pads", Bytes)
+);
+
+impl HasFields for Padb {
+    ghost shown = { λ view b. ⟦<PadbShape as NamedShape>⟧.shown NAMES view (⟦<Padb as DeclaredBox>⟧.layout.content b) };
+
+    ghost whole = { λ view b. ⟦<PadbShape as NamedShape>⟧.whole NAMES view (⟦<Padb as DeclaredBox>⟧.layout.content b) };
+
+    fn show<K: FieldSink>(&self, view: View, sink: &mut K) -> mp4_shown::Result<()> {
+        let parts = parts_of!(self => version, flags, sample_count, pads.as_slice());
+        PadbShape::show(NAMES, view, parts, sink)
+    }
+}
+
 impl TryClone for Padb {
     fn try_clone(&self) -> Result<Padb> {
         let pads = self.pads.try_clone()?;
@@ -94,16 +117,6 @@ impl TryClone for Padb {
 
 /// The padding bits box.
 pub type PadbBox = Declared<Padb>;
-'''
-SHOWN = '''
-/// The padding bits of samples (ISO/IEC 14496-12, 8.7.6).
-pub fn put_padb<S: FieldSink>(b: &Padb, sink: &mut S) -> Result<()>
-    ensures nesting { OnOk result (Keeps S.since fields sink.old sink.new) }
-{
-    put_full(b.version, b.flags, NONE, sink)?;
-    sink.field("sample_count", number(b.sample_count))?;
-    sink.field("pads", Value::Bytes(b.pads.as_slice()))
-}
 '''
 # Five samples, with 5, 2, 7, 1 and 3 padding bits.
 FILE = bytes.fromhex("00000013 70616462 00818283 00000005 527130")
@@ -164,17 +177,13 @@ def with_line(line, others):
 
 
 def with_lines(text):
-    """Returns `text` with a copy for the new box after each line and each impl of the old box, and with the function of
-    the new box after the one that shows fields."""
+    """Returns `text` with a copy for the new box after each line and each impl of the old box."""
     like = LIKE.capitalize()
     impl = re.compile(rf"^impl [^\n]*\b{like}Box\b.*?^}}\n\n?", re.M | re.S)
-    shows = re.compile(rf"^pub fn put_{LIKE}<.*?^}}\n", re.M | re.S)
     others, lines = other_names(), []
-    for piece in re.split(rf"({impl.pattern}|{shows.pattern})", text, flags=re.M | re.S):
+    for piece in re.split(rf"({impl.pattern})", text, flags=re.M | re.S):
         if impl.fullmatch(piece):
             lines.append(piece + names(piece))
-        elif shows.fullmatch(piece):
-            lines.append(piece + SHOWN)
         else:
             lines.append("\n".join(it for line in piece.split("\n") for it in with_line(line, others)))
     return "".join(lines)

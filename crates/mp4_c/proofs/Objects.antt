@@ -5,9 +5,10 @@ use Rattle.json.specs.Token.{Token}
 use Rattle.json.specs.Tree.{json_tokens, members_tokens}
 use Rattle.json.specs.Written.{Written}
 use Rattle.mp4_c.specs.Fields.{PutsObject}
-use Rattle.mp4_show.specs.Nesting.{fields}
-use Rattle.mp4_show.proofs.Whole.{puts_more}
-use Rattle.mp4_show.specs.Tokens.{Puts, PutsAll, tokens_of_members}
+use Rattle.mp4_shown.specs.Members.{members}
+use Rattle.mp4_shown_json.proofs.Puts.{puts_more}
+use Rattle.mp4_shown_json.specs.Tokens.{Puts}
+use Rattle.mp4_shown_json.specs.Whole.{PutsAll, tokens_of_members}
 
 members_end : (ms : Members) → tokens_of_members ms ++ Token.end_object ∷ [] ≡ members_tokens ms
 members_end no_members = refl
@@ -16,7 +17,7 @@ members_end (member k j ms) =
     (append_assoc (json_tokens j) (tokens_of_members ms) (Token.end_object ∷ [])
     ∙ ap (λ (ts : List Token). json_tokens j ++ ts) (members_end ms))
 
-pub puts_object : (a b c d : Written) → Puts a b (Token.begin_object ∷ []) → PutsAll fields b c
+pub puts_object : (a b c d : Written) → Puts a b (Token.begin_object ∷ []) → PutsAll members b c
     → Puts c d (Token.end_object ∷ []) → PutsObject a d
 puts_object a b c d begun (ts, (ms, is), put) ended = (
   ms,

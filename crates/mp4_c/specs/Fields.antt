@@ -14,7 +14,7 @@ use Rattle.mp4_frame.specs.Reading.{Reading, Refuses}
 use Rattle.mp4_frame.specs.declared.box_type.BoxType.{BoxType}
 use Rattle.mp4_frame.specs.declared.error.Error.{Error}
 use Rattle.mp4_show.specs.Escaped.{json_escaped}
-use Rattle.mp4_show.specs.Tokens.{Puts}
+use Rattle.mp4_shown_json.specs.Tokens.{Puts}
 
 -- One whole object is written.
 abbrev pub PutsObject : Written → Written → Type 0

@@ -2,7 +2,7 @@
 
 ghost use Rattle.std.specs.Prelude.{◌≡◌, OnOk, IfOk};
 ghost use Rattle.mp4_c.specs.Fields.{CopiesFields, CopiesFieldsText, IsFieldsText, PutsObject};
-ghost use Rattle.mp4_show.specs.Nesting.{fields, Keeps};
+ghost use Rattle.mp4_shown.specs.Members.{HandsMembers};
 ghost use Rattle.mp4_compose.specs.Either.{known_or, reading_or};
 ghost use Rattle.mp4_stream.specs.AnyBox.{known_any, reading_any};
 
@@ -12,8 +12,10 @@ use mp4_c_boxes::to_rows::copy_rows;
 use mp4_extra::ExtraBox;
 use mp4_frame::codes::{HDLR, URL};
 use mp4_frame::{Frame, StreamBox};
-use mp4_show::{FieldSink, JsonSink, Result, put_handler, put_reference};
+use mp4_show::{Result, json_text, put_handler, put_reference};
 use mp4_show_extra::HasFields;
+use mp4_shown::FieldSink;
+use mp4_shown_json::JsonSink;
 use mp4_stream::{AnyBox, Either};
 use std::alloc::Global;
 
@@ -22,12 +24,13 @@ pub const UNKNOWN_BOX: u32 = 102;
 
 /// Puts the fields of `value` into `sink`. Those of an `hdlr` and of a `url ` are read from `content`, the code and the
 /// content of the box, since the codec keeps their texts only if they are UTF-8.
-fn put_shown<B: HasFields, S: FieldSink>(
+#[tactic(auto, using(mp4_show::proofs::Handed::kept_members))]
+fn put_shown<B: HasFields, K: FieldSink>(
     value: &B,
     content: Option<(u32, &[u8])>,
-    sink: &mut S,
+    sink: &mut K,
 ) -> Result<()>
-    ensures nesting { OnOk result (Keeps S.since fields sink.old sink.new) }
+    ensures whole { OnOk result (HandsMembers K.trace K.after sink.old sink.new) }
 {
     match content {
         Some((HDLR, bytes)) if bytes.len() >= 25 => put_handler(bytes, sink),
@@ -61,7 +64,7 @@ pub fn text_of<B: HasFields>(
 {
     let mut sink = JsonSink::new(alloc);
     put_object(value, content, &mut sink)?;
-    sink.into_text()
+    json_text(alloc, sink)
 }
 
 /// Copies the fields of `value` to `text`, and writes their length to `count`. `content` is the code and the content of

@@ -2,6 +2,7 @@
 
 ghost use Rattle.std.specs.Prelude.{◌≡◌, ◌-◌, ◌≤◌, false, length, min, IsTrue, IfOk, OnOk, IfSome};
 ghost use Rattle.mp4_show.specs.Nesting.{fields, Keeps};
+ghost use Rattle.mp4_shown.specs.Members.{HandsMembers};
 ghost use Rattle.mp4_frame.specs.Reading.{Answers};
 ghost use Rattle.mp4_io.specs.Ends.{is_write};
 ghost use Rattle.mp4_content.specs.Content.{leaf, is_faulty, front, Shows, ShowsKnown, ShowsFront, ShowsEnd, ShowsAs};
@@ -268,12 +269,13 @@ fn put_front<K: FieldSink>(kind: Kind, bytes: &[u8], is_quicktime: bool, sink: &
 }
 
 /// Sends the fields that were read to `sink`.
-pub fn put_content<B: HasFields + Drop, K: FieldSink>(
+#[tactic(auto, using(mp4_show::proofs::Handed::kept_members, mp4_show::proofs::Handed::no_members))]
+pub fn put_content<B: HasFields + Drop, K: mp4_shown::FieldSink>(
     content: &Content<B>,
     is_quicktime: bool,
     sink: &mut K,
 ) -> Result<()>
-    ensures nesting { OnOk result (Keeps K.since fields sink.old sink.new) }
+    ensures whole { OnOk result (HandsMembers K.trace K.after sink.old sink.new) }
 {
     match content {
         Content::Known(value) => value.put_fields(sink),

@@ -1,2 +1,4 @@
 pub mod ShownColour
 pub mod ShownMapping
+pub mod ShownBlocks
+pub mod ShownStreams

@@ -1,6 +1,6 @@
 //! The AV1 codec configuration box.
 
-ghost use Rattle.mp4_extra_media.specs.declared.av1c.TheConstants.{WIDTHS};
+ghost use Rattle.mp4_extra_media.specs.declared.av1c.TheConstants.{NAMES, WIDTHS};
 ghost use Rattle.mp4_frame.specs.declared.codes.TheConstants as codes;
 ghost use Rattle.std.proofs.Common.{refl, lit<};
 ghost use Rattle.mp4_declared.specs.OwnBox.{layout_of};
@@ -11,6 +11,9 @@ use mp4_declared::{
     numbers_of, parts_of,
 };
 use mp4_frame::{Entries, Result, TryClone, codes};
+use mp4_shown::{
+    FieldSink, HasFields, NamedBy, NamedShape, NumberName, ShowShape, View, names_of, number, run,
+};
 
 /// The first four bytes of an `av1C`. The names are those of AV1's sequence header.
 #[derive(Clone, Copy, Debug, Default, PartialEq, Eq)]
@@ -106,6 +109,69 @@ impl DeclaredBox for Av1c {
     }
 
     ghost valid = { refl };
+}
+
+/// The names of the first four bytes. A delay is present.
+const CONFIG: &[NumberName] = &[
+    number!("marker"),
+    number!("version"),
+    number!("seq_profile"),
+    number!("seq_level_idx_0"),
+    number!("seq_tier_0"),
+    number!("high_bitdepth"),
+    number!("twelve_bit"),
+    number!("monochrome"),
+    number!("chroma_subsampling_x"),
+    number!("chroma_subsampling_y"),
+    number!("chroma_sample_position"),
+    number!("reserved", Reserved(0)),
+    number!("initial_presentation_delay_present"),
+    number!("initial_presentation_delay_minus_one"),
+];
+
+/// The names of the first four bytes if no delay is present. Its bits are reserved then.
+const CONFIG_WITHOUT_DELAY: &[NumberName] = &[
+    number!("marker"),
+    number!("version"),
+    number!("seq_profile"),
+    number!("seq_level_idx_0"),
+    number!("seq_tier_0"),
+    number!("high_bitdepth"),
+    number!("twelve_bit"),
+    number!("monochrome"),
+    number!("chroma_subsampling_x"),
+    number!("chroma_subsampling_y"),
+    number!("chroma_sample_position"),
+    number!("reserved", Reserved(0)),
+    number!("initial_presentation_delay_present"),
+    number!("reserved_without_delay", Reserved(0)),
+];
+
+/// The content of the box, for showing only.
+type Av1cShown = (NamedBy<Bits<Av1Config, 14, 4>>, Last<Rest>);
+
+/// The names of the fields.
+const NAMES: <Av1cShown as NamedShape>::Names = names_of!(
+    (CONFIG, CONFIG_WITHOUT_DELAY),
+    run!("configOBUs", Bytes)
+);
+
+impl HasFields for Av1c {
+    ghost shown = { λ view b. ⟦<Av1cShown as NamedShape>⟧.shown NAMES view
+        ((b.config.initial_presentation_delay_present, b.config), (b.config_obus, tt)) };
+
+    ghost whole = { λ view b. ⟦<Av1cShown as NamedShape>⟧.whole NAMES view
+        ((b.config.initial_presentation_delay_present, b.config), (b.config_obus, tt)) };
+
+    fn show<K: FieldSink>(&self, view: View, sink: &mut K) -> mp4_shown::Result<()> {
+        let config = (self.config.initial_presentation_delay_present, self.config);
+        Av1cShown::show(
+            NAMES,
+            view,
+            (config, (self.config_obus.as_slice(), ())),
+            sink,
+        )
+    }
 }
 
 impl TryClone for Av1c {

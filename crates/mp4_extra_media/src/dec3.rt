@@ -1,8 +1,12 @@
 //! The Enhanced AC-3 specific box.
 
-ghost use Rattle.mp4_extra_media.specs.declared.dec3.TheConstants.{WIDTHS};
+ghost use Rattle.mp4_extra_media.specs.ShownStreams.{dependents, shown_stream, stream_size, whole_stream};
+ghost use Rattle.mp4_extra_media.specs.declared.dec3.TheConstants.{NAMES, PARENT_WIDTHS, STREAM_WIDTHS, WIDTHS};
 ghost use Rattle.mp4_frame.specs.declared.codes.TheConstants as codes;
+ghost use Rattle.mp4_frame.specs.Bytes.{number};
 ghost use Rattle.std.proofs.Common.{refl, lit<};
+ghost use Rattle.std.specs.Prelude.{◌≡◌, ◌≤◌, ◌+◌, length};
+ghost use Rattle.mp4_declared.specs.Bits.{split};
 ghost use Rattle.mp4_declared.specs.OwnBox.{layout_of};
 ghost use Rattle.mp4_declared.specs.Layout.{packed, fields_of};
 
@@ -10,7 +14,11 @@ use mp4_declared::{
     Bits, Declared, DeclaredBox, EntryLayout, Last, Rest, Shape, ShapeVisitor, box_of, entry_of,
     numbers_of, parts_of,
 };
-use mp4_frame::{Entries, Result, TryClone, codes};
+use mp4_frame::{Entries, Result, TryClone, codes, u24_at, u32_at};
+use mp4_shown::{
+    FieldSink, HasFields, NamedShape, NumberName, Pieces, PiecesOf, ShowShape, View, byte_at, list,
+    number, put_numbers, run,
+};
 
 /// The first two bytes of a `dec3`.
 #[derive(Clone, Copy, Debug, Default, PartialEq, Eq)]
@@ -88,6 +96,140 @@ impl DeclaredBox for Dec3 {
     }
 
     ghost valid = { refl };
+}
+
+/// The names of the bit rate and the number of streams.
+const CONFIG: &[NumberName] = &[number!("data_rate"), number!("num_ind_sub")];
+
+/// The names of a stream on which none depends.
+const STREAM: &[NumberName] = &[
+    number!("fscod"),
+    number!("bsid"),
+    number!("reserved_before_asvc", Reserved(0)),
+    number!("asvc"),
+    number!("bsmod"),
+    number!("acmod"),
+    number!("lfeon"),
+    number!("reserved_before_num_dep_sub", Reserved(0)),
+    number!("num_dep_sub"),
+    number!("reserved_after_num_dep_sub", Reserved(0)),
+];
+
+/// Their widths, in bits.
+const STREAM_WIDTHS: [u8; 10] = [2, 5, 1, 1, 3, 3, 1, 3, 4, 1];
+
+/// The names of a stream on which others depend.
+const PARENT: &[NumberName] = &[
+    number!("fscod"),
+    number!("bsid"),
+    number!("reserved_before_asvc", Reserved(0)),
+    number!("asvc"),
+    number!("bsmod"),
+    number!("acmod"),
+    number!("lfeon"),
+    number!("reserved_before_num_dep_sub", Reserved(0)),
+    number!("num_dep_sub"),
+    number!("chan_loc"),
+];
+
+/// Their widths, in bits.
+const PARENT_WIDTHS: [u8; 10] = [2, 5, 1, 1, 3, 3, 1, 3, 4, 9];
+
+/// Returns the numbers of the stream at the front of `bytes`, on which none depends.
+fn stream_numbers(bytes: &[u8]) -> [u64; 10]
+    requires { 3 ≤ length bytes.now }
+    ensures { result ≡ split STREAM_WIDTHS (number bytes.now 0 3) }
+{
+    let bits = u64::from(u24_at(bytes, 0));
+    [
+        (bits >> 22) % 4,
+        (bits >> 17) % 32,
+        (bits >> 16) % 2,
+        (bits >> 15) % 2,
+        (bits >> 12) % 8,
+        (bits >> 9) % 8,
+        (bits >> 8) % 2,
+        (bits >> 5) % 8,
+        (bits >> 1) % 16,
+        bits % 2,
+    ]
+}
+
+/// Returns the numbers of the stream at the front of `bytes`, on which others depend.
+fn parent_numbers(bytes: &[u8]) -> [u64; 10]
+    requires { 4 ≤ length bytes.now }
+    ensures { result ≡ split PARENT_WIDTHS (number bytes.now 0 4) }
+{
+    let bits = u64::from(u32_at(bytes, 0));
+    [
+        (bits >> 30) % 4,
+        (bits >> 25) % 32,
+        (bits >> 24) % 2,
+        (bits >> 23) % 2,
+        (bits >> 20) % 8,
+        (bits >> 17) % 8,
+        (bits >> 16) % 2,
+        (bits >> 13) % 8,
+        (bits >> 9) % 16,
+        bits % 512,
+    ]
+}
+
+/// Returns the number of streams that depend on the one at the front of `bytes`.
+fn dependents(bytes: &[u8]) -> u8
+    ensures { result ≡ dependents bytes.now }
+{
+    byte_at(bytes, 2) / 2 % 16
+}
+
+/// The independent streams, for showing only.
+#[derive(Clone, Copy, Drop)]
+pub struct Streams;
+
+impl Pieces for Streams {
+    ghost size_of = { λ streams bytes. stream_size bytes };
+
+    ghost shown = { λ streams view bytes. shown_stream bytes };
+
+    ghost whole = { λ streams view bytes. whole_stream bytes };
+
+    fn size(&self, bytes: &[u8]) -> usize {
+        3 + usize::from(dependents(bytes).min(1))
+    }
+
+    fn show<K: FieldSink>(&self, _view: View, bytes: &[u8], sink: &mut K) -> mp4_shown::Result<()> {
+        if dependents(bytes) == 0 {
+            put_numbers(false, STREAM, &stream_numbers(bytes), sink)
+        } else {
+            put_numbers(false, PARENT, &parent_numbers(bytes), sink)
+        }
+    }
+}
+
+/// The content of the box, for showing only.
+type Dec3Shown = (Bits<Ec3Config, 2, 2>, PiecesOf<Streams>);
+
+/// The names of the fields.
+const NAMES: <Dec3Shown as NamedShape>::Names = (
+    CONFIG,
+    (
+        list!("substreams"),
+        (run!("data_bytes", Bytes), run!("data_bytes", SomeBytes)),
+    ),
+);
+
+impl HasFields for Dec3 {
+    ghost shown = { λ view b. ⟦<Dec3Shown as NamedShape>⟧.shown NAMES view
+        (b.config, (record {}, (b.config.num_ind_sub + 1, b.substreams))) };
+
+    ghost whole = { λ view b. ⟦<Dec3Shown as NamedShape>⟧.whole NAMES view
+        (b.config, (record {}, (b.config.num_ind_sub + 1, b.substreams))) };
+
+    fn show<K: FieldSink>(&self, view: View, sink: &mut K) -> mp4_shown::Result<()> {
+        let count = usize::from(self.config.num_ind_sub) + 1;
+        let parts = (self.config, (Streams, (count, self.substreams.as_slice())));
+        Dec3Shown::show(NAMES, view, parts, sink)
+    }
 }
 
 impl TryClone for Dec3 {

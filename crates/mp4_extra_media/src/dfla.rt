@@ -1,8 +1,15 @@
 //! The FLAC specific box.
 
-ghost use Rattle.mp4_extra_media.specs.declared.dfla.TheConstants.{WIDTHS};
+ghost use Rattle.mp4_extra_media.specs.ShownBlocks.{BlockNames, block_data, seen_block, shown_block, stream_info};
+ghost use Rattle.mp4_extra_media.specs.ShownBlocks.{stream_numbers, whole_block};
+ghost use Rattle.mp4_extra_media.specs.declared.dfla.TheConstants.{BLOCK, NAMES, WIDTHS};
 ghost use Rattle.mp4_frame.specs.declared.codes.TheConstants as codes;
+ghost use Rattle.mp4_shown.specs.Lists.{entry_of};
+ghost use Rattle.mp4_shown.specs.Members.{whole_entry};
+ghost use Rattle.mp4_shown.specs.Hands.{Hands};
+ghost use Rattle.mp4_shown.specs.Numbers.{seen_numbers, shown_numbers};
 ghost use Rattle.std.proofs.Common.{refl, lit<, lit≤};
+ghost use Rattle.std.specs.Prelude.{◌≡◌, OnOk, false, length};
 ghost use Rattle.mp4_declared.specs.OwnBox.{layout_of};
 ghost use Rattle.mp4_declared.specs.DeclaredEntry.{exact_layout_of};
 ghost use Rattle.mp4_declared.specs.Layout.{packed, fields_of};
@@ -11,7 +18,11 @@ use mp4_declared::{
     Bits, Bytes, Count, Declared, DeclaredBox, DeclaredEntry, EachToEnd, EntryLayout, EntryVisitor,
     Full, Last, Shape, ShapeVisitor, box_of, clone_each, entry_of, numbers_of, parts_of,
 };
-use mp4_frame::{Entries, Result, TryClone, codes};
+use mp4_frame::{Entries, Result, TryClone, codes, u16_at, u24_at, u64_at};
+use mp4_shown::{
+    BytesName, FLAGS, FieldSink, HasFields, Meaning, NamedShape, NumberName, ShowShape, ShownEntry,
+    VERSION, View, list, names_of, number, put_bytes, put_number, put_numbers, run,
+};
 
 /// The first byte of a block of metadata (RFC 9639, 8.1).
 #[derive(Clone, Copy, Debug, Default, PartialEq, Eq)]
@@ -88,6 +99,163 @@ impl DeclaredEntry for FlacMetadataBlock {
     ghost begins = { λ _. lit< tt };
 }
 
+/// The meanings of `BlockType` (RFC 9639, 8.1).
+pub const BLOCK_TYPES: &[Meaning] = &[
+    (0, "STREAMINFO"),
+    (1, "PADDING"),
+    (2, "APPLICATION"),
+    (3, "SEEKTABLE"),
+    (4, "VORBIS_COMMENT"),
+    (5, "CUESHEET"),
+    (6, "PICTURE"),
+    (127, "forbidden"),
+];
+
+/// The type of a block and its data, for showing only.
+pub struct BlockData;
+
+/// The names of the number of bytes, of the numbers and the checksum of a STREAMINFO, and of other data.
+type BlockDataNames = (NumberName, (&'static [NumberName], (BytesName, BytesName)));
+
+impl NamedShape for BlockData {
+    type Value = (u8, Entries<u8>);
+
+    type Names = BlockDataNames;
+
+    ghost Seen = { BlockNames };
+
+    ghost seen = { seen_block };
+
+    ghost shown = { λ names view v. shown_block names view.rows v };
+
+    ghost whole = { λ names view v. whole_block names view.rows v };
+}
+
+/// Returns the numbers of a STREAMINFO (RFC 9639, 8.2).
+fn stream_numbers(data: &[u8]) -> [u64; 8]
+    requires { length data.now ≡ 34 }
+    ensures { result ≡ stream_numbers data.now }
+{
+    let bits = u64_at(data, 10);
+    [
+        u64::from(u16_at(data, 0)),
+        u64::from(u16_at(data, 2)),
+        u64::from(u24_at(data, 4)),
+        u64::from(u24_at(data, 7)),
+        bits >> 44,
+        (bits >> 41) % 8 + 1,
+        (bits >> 36) % 32 + 1,
+        bits % (1 << 36),
+    ]
+}
+
+/// Hands the numbers of a STREAMINFO to a sink.
+fn put_stream_numbers<K: FieldSink>(
+    names: &'static [NumberName],
+    data: &[u8],
+    sink: &mut K,
+) -> mp4_shown::Result<()>
+    requires { length data.now ≡ 34 }
+    ensures { OnOk result (Hands K.trace K.after sink.old
+        (shown_numbers false (seen_numbers names.entry).now (stream_numbers data.now)) sink.new) }
+{
+    put_numbers(false, names, &stream_numbers(data), sink)
+}
+
+/// Hands the fields of a STREAMINFO to a sink.
+fn put_stream_info<K: FieldSink>(
+    names: BlockDataNames,
+    rows: usize,
+    data: &[u8],
+    sink: &mut K,
+) -> mp4_shown::Result<()>
+    requires { length data.now ≡ 34 }
+    ensures { OnOk result (Hands K.trace K.after sink.old
+        (stream_info (seen_block names.entry) rows data.now) sink.new) }
+{
+    let (_, (numbers, (checksum, _))) = names;
+    put_stream_numbers(numbers, data, sink)?;
+    put_bytes(checksum, rows, &data[18..], sink)
+}
+
+/// Hands the data of a block to a sink.
+fn put_data<K: FieldSink>(
+    names: BlockDataNames,
+    rows: usize,
+    block_type: u8,
+    data: &[u8],
+    sink: &mut K,
+) -> mp4_shown::Result<()>
+    ensures { OnOk result (Hands K.trace K.after sink.old
+        (block_data (seen_block names.entry) rows block_type data.now) sink.new) }
+{
+    if block_type == 0 && data.len() == 34 {
+        put_stream_info(names, rows, data, sink)
+    } else {
+        put_bytes(names.1.1.1, rows, data, sink)
+    }
+}
+
+impl<'a> ShowShape<(u8, &'a [u8])> for BlockData {
+    ghost content = { λ v. (v.0, v.1.now) };
+
+    fn show<K: FieldSink>(
+        names: Self::Names,
+        view: View,
+        value: (u8, &'a [u8]),
+        sink: &mut K,
+    ) -> mp4_shown::Result<()> {
+        put_number(names.0, value.1.len() as u64, sink)?;
+        put_data(names, view.rows, value.0, value.1, sink)
+    }
+}
+
+/// A block, for showing only.
+type BlockShown = (Bits<FlacBlockKind, 2, 1>, BlockData);
+
+/// The names of the kind of a block.
+const KIND: &[NumberName] = &[
+    number!("LastMetadataBlockFlag"),
+    number!("BlockType", Named, BLOCK_TYPES),
+];
+
+/// The names of the numbers of a STREAMINFO.
+const STREAM: &[NumberName] = &[
+    number!("minimum_block_size"),
+    number!("maximum_block_size"),
+    number!("minimum_frame_size"),
+    number!("maximum_frame_size"),
+    number!("sample_rate"),
+    number!("channels"),
+    number!("bits_per_sample"),
+    number!("total_samples"),
+];
+
+/// The names of the fields of a block.
+const BLOCK: <BlockShown as NamedShape>::Names = (
+    KIND,
+    (
+        number!("Length"),
+        (STREAM, (run!("MD5", Bytes), run!("BlockData", Bytes))),
+    ),
+);
+
+impl ShownEntry for FlacMetadataBlock {
+    ghost shown = { λ view x. entry_of (⟦<BlockShown as NamedShape>⟧.shown BLOCK view
+        (x.kind, (x.kind.block_type, x.block_data))) };
+
+    ghost whole = { λ view x. whole_entry (⟦<BlockShown as NamedShape>⟧.shown BLOCK view
+        (x.kind, (x.kind.block_type, x.block_data)))
+        (⟦<BlockShown as NamedShape>⟧.whole BLOCK view (x.kind, (x.kind.block_type, x.block_data))) };
+
+    fn show<K: FieldSink>(&self, view: View, sink: &mut K) -> mp4_shown::Result<()> {
+        let data = (self.kind.block_type, self.block_data.as_slice());
+        sink.begin_entry()?;
+        BlockShown::show(BLOCK, view, (self.kind, data), sink)?;
+        sink.end_entry()
+    }
+}
+
 impl TryClone for FlacMetadataBlock {
     fn try_clone(&self) -> Result<FlacMetadataBlock> {
         let block_data = self.block_data.try_clone()?;
@@ -135,6 +303,20 @@ impl DeclaredBox for Dfla {
     }
 
     ghost valid = { refl };
+}
+
+/// The names of the fields.
+const NAMES: <DflaShape as NamedShape>::Names = names_of!(VERSION, FLAGS, list!("metadata_blocks"));
+
+impl HasFields for Dfla {
+    ghost shown = { λ view b. ⟦<DflaShape as NamedShape>⟧.shown NAMES view (⟦<Dfla as DeclaredBox>⟧.layout.content b) };
+
+    ghost whole = { λ view b. ⟦<DflaShape as NamedShape>⟧.whole NAMES view (⟦<Dfla as DeclaredBox>⟧.layout.content b) };
+
+    fn show<K: FieldSink>(&self, view: View, sink: &mut K) -> mp4_shown::Result<()> {
+        let parts = parts_of!(self => version, flags, metadata_blocks.as_slice());
+        DflaShape::show(NAMES, view, parts, sink)
+    }
 }
 
 impl TryClone for Dfla {

@@ -1,8 +1,12 @@
 //! The track fragment random access box.
 
-ghost use Rattle.mp4_extra_segments.specs.declared.tfra.TheConstants.{WIDTHS};
+ghost use Rattle.mp4_extra_segments.specs.ShownAccesses.{access_numbers, access_size, shown_access, whole_access};
+ghost use Rattle.mp4_extra_segments.specs.ShownAccesses.{width_of};
+ghost use Rattle.mp4_extra_segments.specs.declared.tfra.TheConstants.{NAMES, WIDTHS};
+ghost use Rattle.mp4_declared.specs.Shape.{time_width};
 ghost use Rattle.mp4_frame.specs.declared.codes.TheConstants as codes;
 ghost use Rattle.std.proofs.Common.{refl, lit<};
+ghost use Rattle.std.specs.Prelude.{◌≡◌, ◌≤◌, length};
 ghost use Rattle.mp4_declared.specs.OwnBox.{layout_of};
 ghost use Rattle.mp4_declared.specs.Layout.{packed, fields_of};
 
@@ -11,6 +15,10 @@ use mp4_declared::{
     entry_of, numbers_of, parts_of,
 };
 use mp4_frame::{Entries, Result, TryClone, codes};
+use mp4_shown::{
+    FLAGS, FieldSink, HasFields, NamedShape, NumberName, Pieces, PiecesOf, ShowShape, VERSION,
+    View, list, number, number_at, put_numbers, run,
+};
 
 /// The numbers of bytes of three fields in each entry of a `tfra`, each minus one.
 #[derive(Clone, Copy, Debug, Default, PartialEq, Eq)]
@@ -96,6 +104,167 @@ impl DeclaredBox for Tfra {
     }
 
     ghost valid = { refl };
+}
+
+/// The names of the sizes of the numbers in each entry.
+const LENGTHS: &[NumberName] = &[
+    number!("reserved", Reserved(0)),
+    number!("length_size_of_traf_num"),
+    number!("length_size_of_trun_num"),
+    number!("length_size_of_sample_num"),
+];
+
+/// The names of the fields of an entry.
+const ACCESS: &[NumberName] = &[
+    number!("time"),
+    number!("moof_offset"),
+    number!("traf_number"),
+    number!("trun_number"),
+    number!("sample_number"),
+];
+
+/// The entries of a box with this version and these sizes, for showing only.
+#[derive(Clone, Copy, Drop)]
+pub struct Accesses {
+    /// The version of the box.
+    pub version: u8,
+    /// The sizes of the numbers in each entry.
+    pub lengths: TfraLengths,
+}
+
+/// Returns the number of bytes of a time or of an offset in a version.
+fn time_width(version: u8) -> usize
+    ensures { result ≡ time_width version }
+{
+    if version == 0 { 4 } else { 8 }
+}
+
+/// Returns the number of bytes of a number whose `length` has two bits.
+fn width_of(length: u8) -> usize
+    ensures { result ≡ width_of length }
+{
+    usize::from(length % 4) + 1
+}
+
+/// Returns the numbers of the entry at the front of `bytes`.
+fn access_numbers(accesses: Accesses, bytes: &[u8]) -> [u64; 5]
+    requires { access_size accesses ≤ length bytes.now }
+    ensures { result ≡ access_numbers accesses bytes.now }
+{
+    let time = time_width(accesses.version);
+    let traf = width_of(accesses.lengths.length_size_of_traf_num);
+    let trun = width_of(accesses.lengths.length_size_of_trun_num);
+    let sample = width_of(accesses.lengths.length_size_of_sample_num);
+    [
+        number_at(bytes, 0, time),
+        number_at(bytes, time, time),
+        number_at(bytes, 2 * time, traf),
+        number_at(bytes, 2 * time + traf, trun),
+        number_at(bytes, 2 * time + traf + trun, sample),
+    ]
+}
+
+impl Pieces for Accesses {
+    ghost size_of = { λ accesses bytes. access_size accesses };
+
+    ghost shown = { λ accesses view bytes. shown_access accesses bytes };
+
+    ghost whole = { λ accesses view bytes. whole_access accesses bytes };
+
+    fn size(&self, _bytes: &[u8]) -> usize {
+        2 * time_width(self.version)
+            + width_of(self.lengths.length_size_of_traf_num)
+            + width_of(self.lengths.length_size_of_trun_num)
+            + width_of(self.lengths.length_size_of_sample_num)
+    }
+
+    fn show<K: FieldSink>(&self, _view: View, bytes: &[u8], sink: &mut K) -> mp4_shown::Result<()> {
+        put_numbers(false, ACCESS, &access_numbers(*self, bytes), sink)
+    }
+}
+
+/// The content of the box, for showing only.
+type TfraShown = Full<2, (U32, Bits<TfraLengths, 4, 4>, U32, PiecesOf<Accesses>)>;
+
+/// The names of the fields.
+const NAMES: <TfraShown as NamedShape>::Names = (
+    VERSION,
+    (
+        FLAGS,
+        (
+            number!("track_ID"),
+            (
+                LENGTHS,
+                (
+                    number!("number_of_entry"),
+                    (
+                        list!("entries"),
+                        (run!("data_bytes", Bytes), run!("data_bytes", SomeBytes)),
+                    ),
+                ),
+            ),
+        ),
+    ),
+);
+
+impl HasFields for Tfra {
+    ghost shown = { λ view b. ⟦<TfraShown as NamedShape>⟧.shown NAMES view (
+      b.version,
+      (
+        b.flags,
+        (
+          b.track_id,
+          (
+            b.lengths,
+            (
+              b.number_of_entry,
+              (
+                record { version = b.version; lengths = b.lengths },
+                (b.number_of_entry, b.entries),
+              ),
+            ),
+          ),
+        ),
+      ),
+    ) };
+
+    ghost whole = { λ view b. ⟦<TfraShown as NamedShape>⟧.whole NAMES view (
+      b.version,
+      (
+        b.flags,
+        (
+          b.track_id,
+          (
+            b.lengths,
+            (
+              b.number_of_entry,
+              (
+                record { version = b.version; lengths = b.lengths },
+                (b.number_of_entry, b.entries),
+              ),
+            ),
+          ),
+        ),
+      ),
+    ) };
+
+    fn show<K: FieldSink>(&self, view: View, sink: &mut K) -> mp4_shown::Result<()> {
+        let accesses = Accesses {
+            version: self.version,
+            lengths: self.lengths,
+        };
+        let entries = (
+            accesses,
+            (self.number_of_entry as usize, self.entries.as_slice()),
+        );
+        let numbers = (self.lengths, (self.number_of_entry, entries));
+        TfraShown::show(
+            NAMES,
+            view,
+            (self.version, (self.flags, (self.track_id, numbers))),
+            sink,
+        )
+    }
 }
 
 impl TryClone for Tfra {

@@ -13,7 +13,6 @@ use Rattle.std.proofs.lemmas.List.{drop_all}
 use Rattle.std.specs.Prelude.{codes}
 use Rattle.json.specs.Token.{Token}
 use Rattle.json.specs.Written.{Written}
-use Rattle.mp4_show.specs.Nesting.{fields}
 use Rattle.mp4_inspect.specs.Json.{number_member, type_token, head_tokens, AreFields, IsRest, end_tokens, levels_end}
 use Rattle.mp4_inspect.specs.Json.{box_tokens, open_inside, open_after, IsShown, AreBoxes, file_tokens, IsJson, comma}
 use Rattle.mp4_inspect.specs.Json.{WritesJson}
@@ -23,9 +22,11 @@ use Rattle.mp4_frame.specs.Reading.{Reading}
 use Rattle.mp4_frame.specs.declared.box_type.BoxType.{BoxType}
 use Rattle.json.specs.Print.{print}
 use Rattle.mp4_content.specs.declared.content.Content.{Content}
-use Rattle.mp4_show.proofs.Whole.{puts_more, puts_then}
 use Rattle.mp4_show.specs.Escaped.{json_escaped}
-use Rattle.mp4_show.specs.Tokens.{Puts, PutsAll}
+use Rattle.mp4_shown.specs.Members.{members}
+use Rattle.mp4_shown_json.proofs.Puts.{puts_more, puts_then}
+use Rattle.mp4_shown_json.specs.Tokens.{Puts}
+use Rattle.mp4_shown_json.specs.Whole.{PutsAll}
 use Rattle.mp4_walk.specs.FileBoxes.{boxes_of}
 use Rattle.mp4_walk.specs.declared.tree_box.TreeBox.{TreeBox}
 
@@ -48,13 +49,13 @@ puts_head r found a b c d e f begun type position size header =
 -- the fields of a box, in an object
 pub puts_fields : (a b c d e : Written) → Puts a b (Token.key (codes "fields") ∷ []) → Puts b c (Token.begin_object
     ∷ [])
-    → PutsAll fields c d → Puts d e (Token.end_object ∷ []) → (ts : List Token) × AreFields ts × Puts a e ts
-puts_fields a b c d e named begun (members, all, put) ended = (
-  Token.key (codes "fields") ∷ Token.begin_object ∷ (members ++ Token.end_object ∷ []),
-  (members, all, refl),
-  puts_more a b e (Token.key (codes "fields") ∷ []) (Token.begin_object ∷ (members ++ Token.end_object ∷ [])) named
-      (puts_more b c e (Token.begin_object ∷ []) (members ++ Token.end_object ∷ []) begun
-      (puts_more c d e members (Token.end_object ∷ []) put ended)),
+    → PutsAll members c d → Puts d e (Token.end_object ∷ []) → (ts : List Token) × AreFields ts × Puts a e ts
+puts_fields a b c d e named begun (inner, all, put) ended = (
+  Token.key (codes "fields") ∷ Token.begin_object ∷ (inner ++ Token.end_object ∷ []),
+  (inner, all, refl),
+  puts_more a b e (Token.key (codes "fields") ∷ []) (Token.begin_object ∷ (inner ++ Token.end_object ∷ [])) named
+      (puts_more b c e (Token.begin_object ∷ []) (inner ++ Token.end_object ∷ []) begun
+      (puts_more c d e inner (Token.end_object ∷ []) put ended)),
 )
 
 -- one more level ends

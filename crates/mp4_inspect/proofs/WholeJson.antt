@@ -5,8 +5,7 @@ use Rattle.std.specs.Prelude.{codes, decimal}
 use Rattle.std.specs.declared.option.Option.{Option}
 use Rattle.json.specs.Json.{Json as Value}
 use Rattle.json.specs.Token.{Token}
-use Rattle.json.specs.Written.{Written}
-use Rattle.mp4_show.specs.Nesting.{Level, fields, entries}
+use Rattle.mp4_shown.specs.Members.{Level, members, entries}
 use Rattle.mp4_frame.specs.Reading.{Reading}
 use Rattle.mp4_frame.specs.declared.box_type.BoxType.{BoxType}
 use Rattle.mp4_frame.specs.declared.four_cc.FourCC.{FourCC}
@@ -14,73 +13,77 @@ use Rattle.mp4_inspect.specs.Json.{number_member, type_token, head_tokens, IsRes
 use Rattle.mp4_inspect.specs.Json.{open_after, box_tokens, AreBoxes, file_tokens, Json}
 use Rattle.mp4_content.specs.declared.content.Content.{Content}
 use Rattle.mp4_content.specs.declared.content.Content.TheVariants as contents
-use Rattle.mp4_show.proofs.Whole.{since_member, since_begun, since_ended, closed_whole, none_whole}
-use Rattle.mp4_show.specs.Tokens.{IsWhole, IsName, bracket, end_bracket, Since}
+use Rattle.mp4_shown_json.proofs.Whole.{Written, value_put, level_put, closed_whole, none_whole}
+use Rattle.mp4_shown_json.specs.Whole.{IsWhole, IsName, bracket, end_bracket}
 use Rattle.mp4_walk.specs.declared.tree_box.TreeBox.{TreeBox}
-
-abbrev state : List Token → Written
-state ts = record { before = []; tokens = ts; spare = 0 }
 
 -- these levels are open in the object of the file
 abbrev Inside : List Level → List Token → Type 0
-Inside levels ts = Since (state (Token.begin_object ∷ [])) levels (state ts)
+Inside [] ts = ⊥
+Inside (level ∷ levels) ts = (inner : List Token) × Written level levels inner × (ts ≡ Token.begin_object ∷ inner)
 
 -- the levels under `n` open containers
 abbrev under : ℕ → List Level
 under zero = []
-under (suc n) = entries ∷ fields ∷ under n
+under (suc n) = entries ∷ members ∷ under n
 
-member : (levels : List Level) (ts : List Token) (k : List ℕ) (value : List Token) → Inside (fields ∷ levels) ts
-    → IsWhole value → Inside (fields ∷ levels) (ts ++ Token.key k ∷ value)
-member levels ts k value inside whole =
-    since_member levels (state (Token.begin_object ∷ [])) (state ts) (state (ts ++ Token.key k ∷ value)) k value inside
-    whole (refl, refl)
+member : (levels : List Level) (ts : List Token) (k : List ℕ) (value : List Token) → Inside (members ∷ levels) ts
+    → IsWhole value → Inside (members ∷ levels) (ts ++ Token.key k ∷ value)
+member levels ts k value (inner, so, is) whole = (
+  inner ++ Token.key k ∷ value,
+  value_put members levels inner (Token.key k ∷ []) value so (k, refl) whole,
+  ap (λ (xs : List Token). xs ++ Token.key k ∷ value) is,
+)
 
 begin : (outer inner : Level) (levels : List Level) (ts name : List Token) → Inside (outer ∷ levels) ts
     → IsName outer name → Inside (inner ∷ outer ∷ levels) (ts ++ (name ++ bracket inner ∷ []))
-begin outer inner levels ts name inside named =
-    since_begun outer inner levels (state (Token.begin_object ∷ [])) (state ts)
-    (state (ts ++ (name ++ bracket inner ∷ []))) name inside named (refl, refl)
+begin outer inner levels ts name (put, so, is) named = (
+  put ++ (name ++ bracket inner ∷ []),
+  (put, name, [], so, named, none_whole inner, refl),
+  ap (λ (xs : List Token). xs ++ (name ++ bracket inner ∷ [])) is,
+)
 
 end : (outer inner : Level) (levels : List Level) (ts : List Token) → Inside (inner ∷ outer ∷ levels) ts
     → Inside (outer ∷ levels) (ts ++ end_bracket inner ∷ [])
-end outer inner levels ts inside =
-    since_ended outer inner levels (state (Token.begin_object ∷ [])) (state ts) (state (ts ++ end_bracket inner ∷ []))
-    inside (refl, refl)
+end outer inner levels ts (put, so, is) = (
+  put ++ end_bracket inner ∷ [],
+  level_put outer inner levels put so,
+  ap (λ (xs : List Token). xs ++ end_bracket inner ∷ []) is,
+)
 
 -- levels end
-ends : (n m k : ℕ) (ts : List Token) → k ≡ n + m → Inside (entries ∷ fields ∷ under k) ts
-    → Inside (entries ∷ fields ∷ under m) (ts ++ levels_end n)
+ends : (n m k : ℕ) (ts : List Token) → k ≡ n + m → Inside (entries ∷ members ∷ under k) ts
+    → Inside (entries ∷ members ∷ under m) (ts ++ levels_end n)
 ends zero m k ts is inside =
     let same : k ≡ m = omega arith in
-    subst (Inside (entries ∷ fields ∷ under m)) (sym (append-nil ts))
-    (subst (λ (j : ℕ). Inside (entries ∷ fields ∷ under j) ts) same inside)
+    subst (Inside (entries ∷ members ∷ under m)) (sym (append-nil ts))
+    (subst (λ (j : ℕ). Inside (entries ∷ members ∷ under j) ts) same inside)
 ends (suc n) m zero ts is inside = absurd (omega arith)
 ends (suc n) m (suc k) ts is inside =
     let less : k ≡ n + m = omega arith in
-    subst (Inside (entries ∷ fields ∷ under m))
+    subst (Inside (entries ∷ members ∷ under m))
     (append_assoc (ts ++ Token.end_array ∷ []) (Token.end_object ∷ []) (levels_end n)
     ∙ append_assoc ts (Token.end_array ∷ []) (Token.end_object ∷ levels_end n))
     (ends n m k ((ts ++ Token.end_array ∷ []) ++ Token.end_object ∷ []) less
-    (end entries fields (fields ∷ under k) (ts ++ Token.end_array ∷ [])
-    (end fields entries (entries ∷ fields ∷ under k) ts inside)))
+    (end entries members (members ∷ under k) (ts ++ Token.end_array ∷ [])
+    (end members entries (entries ∷ members ∷ under k) ts inside)))
 
 type_whole : (code : Option FourCC) → IsWhole (type_token code ∷ [])
 type_whole None = (Value.null, refl)
 type_whole (Some code) = (Value.string _, refl)
 
 -- a box is begun
-heads : (n : ℕ) (found : TreeBox) (ts : List Token) → Inside (entries ∷ fields ∷ under n) ts
-    → Inside (fields ∷ entries ∷ fields ∷ under n) (ts ++ head_tokens found)
+heads : (n : ℕ) (found : TreeBox) (ts : List Token) → Inside (entries ∷ members ∷ under n) ts
+    → Inside (members ∷ entries ∷ members ∷ under n) (ts ++ head_tokens found)
 heads n found ts inside =
-    let levels = entries ∷ fields ∷ under n in
+    let levels = entries ∷ members ∷ under n in
     let named = Token.key (codes "type") ∷ type_token found.code ∷ [] in
     let position = number_member (codes "position") found.position in
     let size = number_member (codes "length") found.length in
     let header = number_member (codes "header") found.header_length in
     let same : ((((ts ++ Token.begin_object ∷ []) ++ named) ++ position) ++ size) ++ header ≡ ts ++ head_tokens found
     = simp append_assoc in
-    subst (Inside (fields ∷ levels)) same
+    subst (Inside (members ∷ levels)) same
     (member levels ((((ts ++ Token.begin_object ∷ []) ++ named) ++ position) ++ size) (codes "header")
     (Token.number (decimal found.header_length) ∷ [])
     (member levels (((ts ++ Token.begin_object ∷ []) ++ named) ++ position) (codes "length") (Token.number (decimal
@@ -88,39 +91,39 @@ heads n found ts inside =
     (member levels ((ts ++ Token.begin_object ∷ []) ++ named) (codes "position") (Token.number (decimal
     found.position) ∷ [])
     (member levels (ts ++ Token.begin_object ∷ []) (codes "type") (type_token found.code ∷ [])
-    (begin entries fields (fields ∷ under n) ts [] inside refl) (type_whole found.code))
+    (begin entries members (members ∷ under n) ts [] inside refl) (type_whole found.code))
     (Value.number _, refl)) (Value.number _, refl)) (Value.number _, refl))
 
 -- the content of a box is written
 rests : {A : Type 0} (content : Content A) (levels : List Level) (ts rest : List Token) → IsRest content rest
-    → Inside (fields ∷ levels) ts → Inside (fields ∷ levels) (ts ++ rest)
+    → Inside (members ∷ levels) ts → Inside (members ∷ levels) (ts ++ rest)
 rests contents.Boxes levels ts rest none inside =
-    subst (λ (xs : List Token). Inside (fields ∷ levels) (ts ++ xs)) (sym none) (subst (Inside (fields ∷ levels))
+    subst (λ (xs : List Token). Inside (members ∷ levels) (ts ++ xs)) (sym none) (subst (Inside (members ∷ levels))
     (sym (append-nil ts)) inside)
 rests contents.Deep levels ts rest none inside =
-    subst (λ (xs : List Token). Inside (fields ∷ levels) (ts ++ xs)) (sym none) (subst (Inside (fields ∷ levels))
+    subst (λ (xs : List Token). Inside (members ∷ levels) (ts ++ xs)) (sym none) (subst (Inside (members ∷ levels))
     (sym (append-nil ts)) inside)
 rests contents.Unread levels ts rest none inside =
-    subst (λ (xs : List Token). Inside (fields ∷ levels) (ts ++ xs)) (sym none) (subst (Inside (fields ∷ levels))
+    subst (λ (xs : List Token). Inside (members ∷ levels) (ts ++ xs)) (sym none) (subst (Inside (members ∷ levels))
     (sym (append-nil ts)) inside)
-rests (contents.Known value) levels ts rest (members, all, is) inside =
-    subst (λ (xs : List Token). Inside (fields ∷ levels) (ts ++ xs)) (sym is)
-    (member levels ts (codes "fields") (Token.begin_object ∷ (members ++ Token.end_object ∷ [])) inside
-    (closed_whole fields members all))
-rests (contents.Front kind bytes) levels ts rest (members, all, is) inside =
-    subst (λ (xs : List Token). Inside (fields ∷ levels) (ts ++ xs)) (sym is)
-    (member levels ts (codes "fields") (Token.begin_object ∷ (members ++ Token.end_object ∷ [])) inside
-    (closed_whole fields members all))
+rests (contents.Known value) levels ts rest (put, all, is) inside =
+    subst (λ (xs : List Token). Inside (members ∷ levels) (ts ++ xs)) (sym is)
+    (member levels ts (codes "fields") (Token.begin_object ∷ (put ++ Token.end_object ∷ [])) inside
+    (closed_whole members put all))
+rests (contents.Front kind bytes) levels ts rest (put, all, is) inside =
+    subst (λ (xs : List Token). Inside (members ∷ levels) (ts ++ xs)) (sym is)
+    (member levels ts (codes "fields") (Token.begin_object ∷ (put ++ Token.end_object ∷ [])) inside
+    (closed_whole members put all))
 rests (contents.Faulty fault) levels ts rest (text, is) inside =
-    subst (λ (xs : List Token). Inside (fields ∷ levels) (ts ++ xs)) (sym is)
+    subst (λ (xs : List Token). Inside (members ∷ levels) (ts ++ xs)) (sym is)
     (member levels ts (codes "fault") (Token.string text ∷ []) inside (Value.string text, refl))
 
 -- the box ends, or its children begin
-tails : (children : Option ℕ) (n : ℕ) (ts : List Token) → Inside (fields ∷ entries ∷ fields ∷ under n) ts
-    → Inside (entries ∷ fields ∷ under (open_inside n children)) (ts ++ end_tokens children)
-tails None n ts inside = end entries fields (fields ∷ under n) ts inside
+tails : (children : Option ℕ) (n : ℕ) (ts : List Token) → Inside (members ∷ entries ∷ members ∷ under n) ts
+    → Inside (entries ∷ members ∷ under (open_inside n children)) (ts ++ end_tokens children)
+tails None n ts inside = end entries members (members ∷ under n) ts inside
 tails (Some first) n ts inside =
-    begin fields entries (entries ∷ fields ∷ under n) ts (Token.key (codes "children") ∷ []) inside (
+    begin members entries (entries ∷ members ∷ under n) ts (Token.key (codes "children") ∷ []) inside (
       codes
           "children",
       refl,
@@ -130,10 +133,10 @@ module _ {A : Type 0} (known : BoxType → Bool) (reading : BoxType → List ℕ
     (List ℕ)) where
   -- boxes, and the ends of all open boxes
   all_boxes : (boxes : List TreeBox) (begun : ℕ) (ts inner : List Token) (faulty : Bool)
-      → AreBoxes known reading bytes begun boxes inner faulty → Inside (entries ∷ fields ∷ under begun) ts
-      → Inside (entries ∷ fields ∷ []) (ts ++ inner)
+      → AreBoxes known reading bytes begun boxes inner faulty → Inside (entries ∷ members ∷ under begun) ts
+      → Inside (entries ∷ members ∷ []) (ts ++ inner)
   all_boxes [] begun ts inner faulty (is, sound) inside =
-      subst (λ (xs : List Token). Inside (entries ∷ fields ∷ []) (ts ++ xs)) (sym is) (ends begun 0 begun ts (omega
+      subst (λ (xs : List Token). Inside (entries ∷ members ∷ []) (ts ++ xs)) (sym is) (ends begun 0 begun ts (omega
       arith) inside)
   all_boxes (found ∷ boxes) begun ts inner faulty
       (rest, more, here, there, (content, shows, is_rest, is_here), are, is, is_faulty) inside =
@@ -143,12 +146,12 @@ module _ {A : Type 0} (known : BoxType → Bool) (reading : BoxType → List ℕ
       let same : (((ended ++ head_tokens found) ++ rest) ++ end_tokens found.children) ++ more ≡ ts ++ (box_tokens
       begun found rest ++ more)
       = simp append_assoc in
-      subst (λ (xs : List Token). Inside (entries ∷ fields ∷ []) (ts ++ xs)) (sym is)
-      (subst (Inside (entries ∷ fields ∷ [])) same
+      subst (λ (xs : List Token). Inside (entries ∷ members ∷ []) (ts ++ xs)) (sym is)
+      (subst (Inside (entries ∷ members ∷ [])) same
       (all_boxes boxes (open_after begun found) (((ended ++ head_tokens found) ++ rest) ++ end_tokens
       found.children) more there are
       (tails found.children n ((ended ++ head_tokens found) ++ rest)
-      (rests content (entries ∷ fields ∷ under n) (ended ++ head_tokens found) rest is_rest
+      (rests content (entries ∷ members ∷ under n) (ended ++ head_tokens found) rest is_rest
       (heads n found ended (ends (begun - found.depth) n begun ts fits inside))))))
 
   -- all tokens of a file are one value
@@ -156,12 +159,12 @@ module _ {A : Type 0} (known : BoxType → Bool) (reading : BoxType → List ℕ
       → Json known reading bytes name boxes ts faulty → IsWhole ts
   whole_json name boxes ts faulty (inner, are, is) =
       let named = member [] (Token.begin_object ∷ []) (codes "file") (Token.string name ∷ [])
-      ([], none_whole fields, (refl, refl)) (Value.string name, refl) in
-      let begun = begin fields entries [] (Token.begin_object ∷ Token.key (codes "file") ∷ Token.string name ∷ [])
+      ([], none_whole members, refl) (Value.string name, refl) in
+      let begun = begin members entries [] (Token.begin_object ∷ Token.key (codes "file") ∷ Token.string name ∷ [])
       (Token.key (codes "boxes") ∷ []) named (codes "boxes", refl) in
-      let (more, all, (same, put)) = end fields entries [] (file_tokens name ++ inner)
+      let (more, all, put) = end members entries [] (file_tokens name ++ inner)
       (all_boxes boxes 0 (file_tokens name) inner faulty are begun) in
       let last : file_tokens name ++ (inner ++ Token.end_array ∷ Token.end_object ∷ [])
       ≡ ((file_tokens name ++ inner) ++ Token.end_array ∷ []) ++ Token.end_object ∷ [] = simp append_assoc in
       subst IsWhole (sym (is ∙ last ∙ ap (λ (xs : List Token). xs ++ Token.end_object ∷ []) put)) (closed_whole
-      fields more all)
+      members more all)

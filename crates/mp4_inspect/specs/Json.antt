@@ -6,7 +6,6 @@ use Rattle.std.specs.Io.KnownBytes.{Appends}
 use Rattle.std.specs.declared.option.Option.{Option}
 use Rattle.json.specs.Print.{print}
 use Rattle.json.specs.Token.{Token}
-use Rattle.mp4_show.specs.Nesting.{fields}
 use Rattle.mp4_frame.specs.Reading.{Reading}
 use Rattle.mp4_frame.specs.declared.box_type.BoxType.{BoxType}
 use Rattle.mp4_frame.specs.declared.four_cc.FourCC.{FourCC}
@@ -15,7 +14,9 @@ use Rattle.mp4_content.specs.Kind.{kind_of}
 use Rattle.mp4_content.specs.declared.content.Content.{Content}
 use Rattle.mp4_content.specs.declared.content.Content.TheVariants as contents
 use Rattle.mp4_show.specs.Escaped.{json_escaped}
-use Rattle.mp4_show.specs.Tokens.{AreWhole, IsWhole, code_text}
+use Rattle.mp4_shown.specs.Members.{members}
+use Rattle.mp4_shown_json.specs.Tokens.{code_text}
+use Rattle.mp4_shown_json.specs.Whole.{AreWhole, IsWhole}
 use Rattle.mp4_walk.specs.FileBoxes.{boxes_of}
 use Rattle.mp4_walk.specs.declared.tree_box.TreeBox.{TreeBox}
 
@@ -37,8 +38,8 @@ head_tokens found =
 
 -- the fields of a box: whole members, in an object
 abbrev pub AreFields : List Token → Type 0
-AreFields ts = (members : List Token) × AreWhole fields members
-    × (ts ≡ Token.key (codes "fields") ∷ Token.begin_object ∷ (members ++ Token.end_object ∷ []))
+AreFields ts = (inner : List Token) × AreWhole members inner
+    × (ts ≡ Token.key (codes "fields") ∷ Token.begin_object ∷ (inner ++ Token.end_object ∷ []))
 
 -- the next member of the object, by the content of the box: its fields, its fault or nothing
 abbrev pub IsRest : {A : Type 0} → Content A → List Token → Type 0

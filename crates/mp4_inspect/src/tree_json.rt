@@ -5,12 +5,13 @@ ghost use Rattle.json.specs.Token.{Token, key, string};
 ghost use Rattle.mp4_inspect.specs.Json.{number_member, head_tokens, type_token, AreFields, IsRest, end_tokens};
 ghost use Rattle.mp4_inspect.specs.Json.{levels_end};
 ghost use Rattle.mp4_inspect.specs.Json.{open_inside, open_after, box_tokens, IsShown, file_tokens, IsJson};
-ghost use Rattle.mp4_show.specs.Tokens.{Puts};
+ghost use Rattle.mp4_shown_json.specs.Tokens.{Puts};
 
 use mp4_content::{Content, Shown, content_of, either, fault_text, or_memory, put_content};
 use mp4_io::Failure;
-use mp4_show::{JsonSink, Result};
+use mp4_show::{Result, json_text};
 use mp4_show_extra::HasFields;
+use mp4_shown_json::JsonSink;
 use mp4_stream::{Error, FourCC};
 use mp4_walk::{BoxWalk, Source, TreeBox};
 use std::alloc::Global;
@@ -228,5 +229,5 @@ pub fn tree_json<B: Shown, S: Source>(
     }
     or_memory(end_levels(&mut begun, 0, &mut sink))?;
     or_memory(end_file(&mut sink))?;
-    Ok((or_memory(sink.into_text())?, faulty))
+    Ok((or_memory(json_text(alloc, sink))?, faulty))
 }

@@ -4,6 +4,7 @@ pub mod CompactSizes
 pub mod Levels
 pub mod Tables
 pub mod Movies
+pub mod Descriptions
 pub mod Ends
 pub mod Infos
 pub mod Trafs

@@ -4,6 +4,7 @@
 
 mod compact_sizes;
 mod defaults;
+mod descriptions;
 mod error;
 mod found;
 mod fragment;

@@ -2,6 +2,7 @@
 
 ghost use Rattle.std.specs.Prelude.{◌≡◌, length, map, IfOk, IfSome};
 ghost use Rattle.mp4_movie.specs.Defaults.{AreDefaults, trexes};
+ghost use Rattle.mp4_movie.specs.Descriptions.{descriptions_of};
 ghost use Rattle.mp4_movie.specs.Ends.{end_by, time_end_of};
 ghost use Rattle.mp4_movie.specs.Fragments.{AreFragments};
 ghost use Rattle.mp4_movie.specs.Infos.{AreInfos, IsInfo};
@@ -9,9 +10,11 @@ ghost use Rattle.mp4_movie.specs.Movies.{first_with, found_at, has_id, inside, o
 ghost use Rattle.mp4_movie.specs.Movies.{traks};
 ghost use Rattle.mp4_movie.specs.Problems.{ReturnsFor, ReturnsBoxes};
 ghost use Rattle.mp4_movie.specs.Reads.{IsReadAs, own_reading};
+ghost use Rattle.mp4_movie.specs.Trafs.{ReturnsForAs};
 ghost use Rattle.mp4_walk.specs.FileBoxes.{boxes_of};
 
 use crate::defaults::{Defaults, defaults_of};
+use crate::descriptions::descriptions_in;
 use crate::error::{BoxError, MovieError};
 use crate::info::{TrackInfo, handler, timescale, track_id};
 use crate::level::{boxes_after, first_in};
@@ -77,6 +80,19 @@ fn samples_in<S: Source>(
 {
     let stbl = sample_table(trak)?;
     tables_in(alloc, walk, stbl)
+}
+
+/// Returns the bytes of the sample descriptions of a track. `trak` begins with the boxes inside its `trak`.
+fn descriptions_of<S: Source>(
+    alloc: Global,
+    walk: &mut BoxWalk<S>,
+    trak: &[TreeBox],
+) -> Result<Vec<u8>, MovieError>
+    ensures value { ReturnsForAs (λ v. v.items) walk.old.bytes result (λ file. descriptions_of file trak.now) }
+    ensures kept { walk.new ≡ walk.old }
+{
+    let stbl = sample_table(trak)?;
+    descriptions_in(alloc, walk, stbl)
 }
 
 /// Returns the time at which the samples of `tables` end, and 0 if there are none.
@@ -188,6 +204,27 @@ fn samples_at<S: Source>(
     samples_in(alloc, walk, boxes_after(boxes, place.first))
 }
 
+/// Returns the bytes of the sample descriptions of track `number` at these places.
+fn descriptions_at<S: Source>(
+    alloc: Global,
+    walk: &mut BoxWalk<S>,
+    boxes: &[TreeBox],
+    places: &[TrakPlace],
+    number: usize,
+) -> Result<Vec<u8>, MovieError>
+    ensures value { ReturnsForAs (λ v. v.items) walk.old.bytes result
+        (λ file. of_track (descriptions_of file) number (map (found_at boxes.now) places.now)) }
+    ensures kept { walk.new ≡ walk.old }
+{
+    if number >= places.len() {
+        return Err(MovieError::Box(BoxError::Missing {
+            code: FourCC::from(codes::TRAK),
+        }));
+    }
+    let place = places[number];
+    descriptions_of(alloc, walk, boxes_after(boxes, place.first))
+}
+
 impl<S: Source> Movie<S> {
     /// Makes the movie of `source` and lists its boxes once, reading only their headers.
     pub fn open(alloc: Global, source: S) -> io::Result<Movie<S>>
@@ -261,6 +298,16 @@ impl<S: Source> Movie<S> {
         ensures kept { self.new ≡ self.old }
     {
         samples_at(alloc, &mut self.walk, &self.boxes, &self.tracks, number)
+    }
+
+    /// Returns the bytes of the sample descriptions of track `number`: its first `stsd`, with the header. Fails if that
+    /// is missing or not whole.
+    pub fn descriptions(&mut self, alloc: Global, number: usize) -> Result<Vec<u8>, MovieError>
+        ensures value { ReturnsForAs (λ v. v.items) self.old.bytes result
+            (λ file. of_track (descriptions_of file) number (traks (boxes_of file))) }
+        ensures kept { self.new ≡ self.old }
+    {
+        descriptions_at(alloc, &mut self.walk, &self.boxes, &self.tracks, number)
     }
 
     /// Returns the time at which the samples of the tables of track `number` end, in ticks of the timescale of its

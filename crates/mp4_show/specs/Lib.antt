@@ -1,4 +1,3 @@
-pub mod Tokens
 pub mod Escaped
 pub mod Nesting
 pub mod Language

@@ -4,11 +4,13 @@
 ghost use Rattle.std.specs.Prelude.{◌≡◌, ◌+◌, ◌-◌, ◌≤◌, length, min, max, slice_index, slice_range, OnOk};
 ghost use Rattle.mp4_show.specs.Nesting.{fields, Keeps};
 
-use crate::flag_names::{FlagName, NONE, REFERENCE};
-use crate::sink::{FieldSink, Result, put_all};
-use crate::value::{Value, fixed, number};
+use crate::flag_names::{NONE, REFERENCE};
+use crate::sink::{FieldSink, put_all};
+use crate::value::{fixed, number};
 use mp4_frame::{i16_at, u8_at, u16_at, u32_at, u64_at};
+use mp4_shown::{Meaning, Result, Value};
 use mp4_stream::FourCC;
+use ryu::Buffer;
 use std::num::f64_from_bits_with_nan;
 
 /// How many bytes of fields a sample entry of video has before its boxes (ISO/IEC 14496-12, 12.1.3).
@@ -21,14 +23,14 @@ pub const SOUND_LENGTH: usize = 28;
 pub fn put_full<S: FieldSink>(
     version: u8,
     flags: u32,
-    names: &'static [FlagName],
+    names: &'static [Meaning],
     sink: &mut S,
 ) -> Result<()>
     ensures nesting { OnOk result (Keeps S.since fields sink.old sink.new) }
 {
     let row = [
         ("version", number(version)),
-        ("flags", Value::Flags(flags, 6, names)),
+        ("flags", Value::Flags(u64::from(flags), 6, names)),
     ];
     put_all(&row, sink)
 }
@@ -71,16 +73,26 @@ pub fn put_visual<S: FieldSink>(bytes: &[u8], sink: &mut S) -> Result<()>
     put_all(&row, sink)
 }
 
-/// The number in the 8 bytes of IEEE 754 at an offset; the bytes themselves if they are no finite number.
-fn float_at(bytes: &[u8], at: usize) -> Value<'_>
+/// Returns the number in the 8 bytes of IEEE 754 at an offset, or the bytes if they are no finite number. The decimal
+/// of the number is written to `buffer`.
+fn float_at<'a>(bytes: &'a [u8], at: usize, buffer: &'a mut Buffer) -> Value<'a>
     requires { at + 8 ≤ length bytes.now }
 {
     let number = f64_from_bits_with_nan(u64_at(bytes, at));
     if number.is_finite() {
-        Value::Float(number)
+        Value::Float(number, buffer.format_finite(number))
     } else {
         Value::Bytes(&bytes[at..at + 8])
     }
+}
+
+/// Hands the sample rate of QuickTime's second version of a sound entry to a sink.
+fn put_sample_rate<S: FieldSink>(bytes: &[u8], sink: &mut S) -> Result<()>
+    requires { 64 ≤ length bytes.now }
+    ensures nesting { OnOk result (Keeps S.since fields sink.old sink.new) }
+{
+    let mut buffer = Buffer::new();
+    sink.field("audio_sample_rate", float_at(bytes, 32, &mut buffer))
 }
 
 /// Hands the fields that QuickTime's second version of a sound entry has after the common ones to a sink (QuickTime
@@ -89,13 +101,13 @@ fn put_second<S: FieldSink>(bytes: &[u8], sink: &mut S) -> Result<()>
     requires { 64 ≤ length bytes.now }
     ensures nesting { OnOk result (Keeps S.since fields sink.old sink.new) }
 {
+    put_sample_rate(bytes, sink)?;
     let row = [
-        ("audio_sample_rate", float_at(bytes, 32)),
         ("num_audio_channels", number(u32_at(bytes, 40))),
         ("const_bits_per_channel", number(u32_at(bytes, 48))),
         (
             "format_specific_flags",
-            Value::Flags(u32_at(bytes, 52), 8, NONE),
+            Value::Flags(u64::from(u32_at(bytes, 52)), 8, NONE),
         ),
         ("const_bytes_per_audio_packet", number(u32_at(bytes, 56))),
         (

@@ -1,9 +1,7 @@
 //! Codes of four characters as text.
 
-ghost use Rattle.std.specs.Prelude.{◌≡◌, ◌++◌, OnOk, string_bytes};
-ghost use Rattle.mp4_show.specs.Tokens.{code_text};
-
-use crate::Result;
+use mp4_shown::Result;
+use mp4_shown_json::push_latin;
 use mp4_stream::FourCC;
 
 /// Whether a byte is a character that can be printed: of ASCII, or of Latin-1 as the sign © in `©too`.
@@ -20,14 +18,4 @@ pub fn push_code(code: FourCC, out: &mut String) -> Result<()> {
     let _ = hex::encode_to_slice(code.value, &mut digits);
     out.push_str("0x")?;
     out.push_str(std::str::from_utf8(&digits).unwrap_or(""))
-}
-
-/// Appends the four bytes of a code, each as the character of its number.
-pub fn push_latin(code: FourCC, out: &mut String) -> Result<()>
-    ensures text { OnOk result (string_bytes out.new ≡ string_bytes out.old ++ code_text code.value) }
-{
-    for byte in &code.value {
-        out.push(char::from(*byte))?;
-    }
-    Ok(())
 }

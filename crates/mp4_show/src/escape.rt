@@ -7,7 +7,7 @@ ghost use Rattle.std.specs.Char.Escape.{hex_digit_at};
 ghost use Rattle.mp4_show.specs.Escaped.{is_escaped, leading_digit, short_digits, four_digits, number_in};
 ghost use Rattle.mp4_show.specs.Escaped.{shown_char, escaped, text_escaped, json_escaped};
 
-use crate::Result;
+use mp4_shown::Result;
 use std::alloc::Global;
 
 /// A form of a character's number.

@@ -12,13 +12,14 @@ mod samples;
 mod sound;
 mod tracks;
 
-use crate::sink::{FieldSink, Result};
+use crate::sink::FieldSink;
 use entries::{put_avc1, put_avcc, put_hev1, put_hvcc, put_tx3g, put_vp09, put_vpcc};
 pub use fragments::put_if_some;
 use fragments::{put_mehd, put_mfhd, put_tfdt, put_tfhd, put_trex, put_trun};
 use media::{put_dinf, put_dref, put_smhd, put_url, put_vmhd};
 use metadata::{put_data_box, put_emsg};
 use movie::{put_ftyp, put_mvhd};
+use mp4_shown::Result;
 use mp4_stream::AnyBox;
 use samples::{put_co64, put_ctts, put_stco, put_stsc, put_stss, put_stsz, put_stts};
 use sound::{put_esds, put_mp4a, put_stsd};

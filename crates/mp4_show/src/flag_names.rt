@@ -1,13 +1,12 @@
-//! The names of flags.
+//! The names of flags, without what all flags of a box begin or end with.
 
-/// The bit of a flag, and its name, as the standard has it, without what all flags of the box begin or end with.
-pub type FlagName = (u32, &'static str);
+use mp4_shown::Meaning;
 
 /// No flag has a name.
-pub const NONE: &[FlagName] = &[];
+pub const NONE: &[Meaning] = &[];
 
 /// The flags of a track header (ISO/IEC 14496-12, 8.3.2.3).
-pub const TRACK: &[FlagName] = &[
+pub const TRACK: &[Meaning] = &[
     (0x1, "enabled"),
     (0x2, "in_movie"),
     (0x4, "in_preview"),
@@ -15,7 +14,7 @@ pub const TRACK: &[FlagName] = &[
 ];
 
 /// The flags of a track fragment header (ISO/IEC 14496-12, 8.8.7.1).
-pub const TRACK_FRAGMENT: &[FlagName] = &[
+pub const TRACK_FRAGMENT: &[Meaning] = &[
     (0x1, "base_data_offset"),
     (0x2, "sample_description_index"),
     (0x8, "default_sample_duration"),
@@ -26,7 +25,7 @@ pub const TRACK_FRAGMENT: &[FlagName] = &[
 ];
 
 /// The flags of a track run (ISO/IEC 14496-12, 8.8.8.1).
-pub const TRACK_RUN: &[FlagName] = &[
+pub const TRACK_RUN: &[Meaning] = &[
     (0x1, "data_offset"),
     (0x4, "first_sample_flags"),
     (0x100, "sample_duration"),
@@ -36,7 +35,7 @@ pub const TRACK_RUN: &[FlagName] = &[
 ];
 
 /// The flags of a reference to media data (ISO/IEC 14496-12, 8.7.2.1).
-pub const REFERENCE: &[FlagName] = &[(0x1, "same_file")];
+pub const REFERENCE: &[Meaning] = &[(0x1, "same_file")];
 
 /// The flag of a sample that has a bit of its own (ISO/IEC 14496-12, 8.8.3.1).
-pub const SAMPLE: &[FlagName] = &[(0x1_0000, "non_sync")];
+pub const SAMPLE: &[Meaning] = &[(0x1_0000, "non_sync")];

@@ -3,7 +3,7 @@
 ghost use Rattle.std.specs.Prelude.{◌≡◌};
 ghost use Rattle.mp4_show.specs.Language.{language_kind};
 
-use crate::value::Value;
+use mp4_shown::Value;
 use mp4_stream::language_code;
 
 /// The meaning of a language's code.

@@ -3,8 +3,9 @@
 ghost use Rattle.std.specs.Prelude.{OnOk};
 ghost use Rattle.mp4_show.specs.Nesting.{fields, Keeps};
 
-use crate::sink::{FieldSink, Result};
+use crate::sink::FieldSink;
 use crate::value::number;
+use mp4_shown::Result;
 
 /// Hands the list `name` of whole numbers to `sink`, as a field.
 pub fn put_numbers<N: Copy + Into<u64>, S: FieldSink>(

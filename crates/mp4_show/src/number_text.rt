@@ -2,9 +2,9 @@
 
 ghost use Rattle.std.specs.Prelude.{◌≡◌, ◌++◌, OnOk, decimal, string_bytes};
 
-use crate::Result;
 use crate::escape::{Form, push_shown};
 use jiff::Timestamp;
+use mp4_shown::Result;
 use std::alloc::Global;
 
 /// The seconds from the start of 1904 to the start of 1970.
@@ -28,16 +28,20 @@ pub fn push_signed(number: i64, out: &mut String) -> Result<()> {
     out.push_str(buffer.format(number))
 }
 
-/// Appends a fixed-point number as a decimal, exactly: the raw number has this many bits after the point.
-pub fn push_fixed(raw: i64, bits: u32, out: &mut String) -> Result<()> {
-    if raw < 0 {
+/// Appends a fixed-point number that may be negative, in the form of `push_fixed`.
+pub fn push_signed_fixed(number: i64, bits: u32, out: &mut String) -> Result<()> {
+    if number < 0 {
         out.push('-')?;
     }
+    push_fixed(number.unsigned_abs(), bits, out)
+}
+
+/// Appends a fixed-point number as an exact decimal: `number` has this many bits after the point, at most 30.
+pub fn push_fixed(number: u64, bits: u32, out: &mut String) -> Result<()> {
     let bits = bits.min(30);
     let one = 1u64 << bits;
-    let size = raw.unsigned_abs();
-    push_number(size / one, out)?;
-    let mut part = size % one;
+    push_number(number / one, out)?;
+    let mut part = number % one;
     if part == 0 {
         return Ok(());
     }
@@ -60,7 +64,7 @@ pub fn push_float(alloc: Global, number: f64, out: &mut String) -> Result<()> {
 }
 
 /// Appends a number in hexadecimal digits, at least so many.
-pub fn push_hex(alloc: Global, number: u32, digits: usize, out: &mut String) -> Result<()> {
+pub fn push_hex(alloc: Global, number: u64, digits: usize, out: &mut String) -> Result<()> {
     let text = if digits > 6 {
         format!(in alloc; "0x{number:08x}")?
     } else {

@@ -1,18 +1,16 @@
 //! What takes the fields of a box.
 
-ghost use Rattle.std.specs.Prelude.{OnOk, ⊤};
-ghost use Rattle.mp4_show.specs.Nesting.{History, fields, entries, Keeps, Begins, Ends};
+ghost use Rattle.std.specs.Prelude.{OnOk};
+ghost use Rattle.mp4_show.specs.Nesting.{History, Since, fields, Keeps, Begins, Ends};
+ghost use Rattle.mp4_shown.specs.Members.{entries};
 
-use crate::value::Value;
-use std::alloc::AllocError;
+use mp4_shown::{Result, Value};
 
-/// What a call of a sink returns: it fails only when out of memory.
-pub type Result<T> = std::result::Result<T, AllocError>;
-
-/// Takes the fields of a box, in the order of the box.
+/// Takes the fields of a box from a function that lists them by hand, in the order of the box. Every sink of
+/// `mp4_shown` is one.
 pub trait FieldSink {
-    /// What was handed to it between an earlier state and a later one. A sink that leaves it out says nothing of that.
-    ghost since: { History Self } = { λ _ _ _. ⊤ };
+    /// The events that it was handed between an earlier state and a later one.
+    ghost since: { History Self };
 
     /// How many entries of each list are wanted.
     fn rows(&self) -> usize;
@@ -51,6 +49,50 @@ pub trait FieldSink {
     /// Ends a field that has fields.
     fn end_group(&mut self) -> Result<()>
         ensures nesting { OnOk result (Ends since fields fields self.old self.new) };
+}
+
+impl<K: mp4_shown::FieldSink> FieldSink for K {
+    ghost since = { Since K.trace K.after };
+
+    fn rows(&self) -> usize {
+        self.view().rows
+    }
+
+    fn wants_columns(&self) -> bool {
+        self.view().columns
+    }
+
+    fn field(&mut self, name: &str, value: Value<'_>) -> Result<()> {
+        <K as mp4_shown::FieldSink>::field(self, name, value)
+    }
+
+    fn begin_list(&mut self, name: &str, total: usize) -> Result<()> {
+        <K as mp4_shown::FieldSink>::begin_list(self, name, total)
+    }
+
+    fn item(&mut self, value: Value<'_>) -> Result<()> {
+        <K as mp4_shown::FieldSink>::item(self, value)
+    }
+
+    fn begin_entry(&mut self) -> Result<()> {
+        <K as mp4_shown::FieldSink>::begin_entry(self)
+    }
+
+    fn end_entry(&mut self) -> Result<()> {
+        <K as mp4_shown::FieldSink>::end_entry(self)
+    }
+
+    fn end_list(&mut self) -> Result<()> {
+        <K as mp4_shown::FieldSink>::end_list(self)
+    }
+
+    fn begin_group(&mut self, name: &str) -> Result<()> {
+        <K as mp4_shown::FieldSink>::begin_group(self, name)
+    }
+
+    fn end_group(&mut self) -> Result<()> {
+        <K as mp4_shown::FieldSink>::end_group(self)
+    }
 }
 
 /// Hands fields of one value each to a sink, in this order.

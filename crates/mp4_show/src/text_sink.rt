@@ -1,11 +1,25 @@
 //! The text of a box: its line, and a line for each entry of its lists.
 
+ghost use Rattle.std.specs.Prelude.{false};
+
 use crate::look::Look;
 use crate::number_text::push_number;
 use crate::value_text::push_value;
-use crate::{FieldSink, Result, Value};
-use mp4_stream::Matrix;
+use mp4_shown::{FieldSink, Matrix, Result, Value, View};
 use std::alloc::Global;
+
+/// The transformation that changes nothing.
+const IDENTITY: Matrix = Matrix {
+    a: 0x1_0000,
+    b: 0,
+    u: 0,
+    c: 0,
+    d: 0x1_0000,
+    v: 0,
+    x: 0,
+    y: 0,
+    w: 0x4000_0000,
+};
 
 /// What comes before the next piece of a line.
 #[derive(Clone, Copy, Debug, PartialEq, Eq)]
@@ -212,18 +226,26 @@ impl TextSink {
     }
 }
 
-/// Whether a value is left out of a text, since it is what it mostly is.
+/// Returns whether a value is left out of a text, since most boxes have it.
 fn is_usual(value: Value<'_>) -> bool {
-    matches!(value, Value::Matrix(matrix) if *matrix == Matrix::default())
+    matches!(value, Value::Matrix(matrix) if *matrix == IDENTITY)
 }
 
+/// The sink promises nothing of its text.
 impl FieldSink for TextSink {
-    fn rows(&self) -> usize {
-        self.look.rows
-    }
+    ghost Trace = { Unit {0} };
 
-    fn wants_columns(&self) -> bool {
-        false
+    ghost trace = { λ _. tt };
+
+    ghost after = { λ _ _. tt };
+
+    ghost wanted = { λ sink. record { rows = sink.look.rows; columns = false } };
+
+    fn view(&self) -> View {
+        View {
+            rows: self.look.rows,
+            columns: false,
+        }
     }
 
     fn field(&mut self, name: &str, value: Value<'_>) -> Result<()> {

@@ -2,18 +2,19 @@
 
 use crate::code::push_code;
 use crate::number_text::{
-    push_bytes, push_date, push_fixed, push_float, push_hex, push_number, push_signed, push_text,
+    push_bytes, push_date, push_fixed, push_float, push_hex, push_number, push_signed,
+    push_signed_fixed, push_text,
 };
-use crate::{FlagName, Result, Value};
-use mp4_stream::{FourCC, Matrix};
+use mp4_shown::{Matrix, Meaning, Result, Value};
+use mp4_stream::FourCC;
 use std::alloc::Global;
 
 /// Appends flags in hexadecimal digits, and the names of those that are set.
 fn push_flags(
     alloc: Global,
-    flags: u32,
+    flags: u64,
     digits: usize,
-    names: &[FlagName],
+    names: &[Meaning],
     out: &mut String,
 ) -> Result<()> {
     push_hex(alloc, flags, digits, out)?;
@@ -62,11 +63,11 @@ fn push_matrix(m: &Matrix, out: &mut String) -> Result<()> {
     let mut before = "(";
     for (first, second, third) in rows {
         out.push_str(before)?;
-        push_fixed(i64::from(first), 16, out)?;
+        push_signed_fixed(i64::from(first), 16, out)?;
         out.push(' ')?;
-        push_fixed(i64::from(second), 16, out)?;
+        push_signed_fixed(i64::from(second), 16, out)?;
         out.push(' ')?;
-        push_fixed(i64::from(third), 30, out)?;
+        push_signed_fixed(i64::from(third), 30, out)?;
         before = "; ";
     }
     out.push(')')
@@ -85,8 +86,12 @@ pub fn push_value(alloc: Global, value: Value<'_>, out: &mut String) -> Result<(
         }
         Value::Flags(flags, digits, names) => push_flags(alloc, flags, digits, names, out),
         Value::Date(seconds) => push_date(alloc, seconds, out),
-        Value::Float(number) => push_float(alloc, number, out),
-        Value::Fixed(raw, bits) => push_fixed(raw, bits, out),
+        Value::Fixed(number, bits) => push_fixed(number, bits, out),
+        Value::SignedFixed(number, bits) => push_signed_fixed(number, bits, out),
+        Value::Float(number, _) => push_float(alloc, number, out),
+        Value::Hex(number, count) => {
+            push_bytes(alloc, &number.to_be_bytes()[8 - count.min(8)..], out)
+        }
         Value::MediaTime(-1) => out.push_str("empty"),
         Value::MediaTime(time) => push_signed(time, out),
         Value::Code(code) => push_code(code, out),

@@ -1,21 +1,23 @@
 //! Boxes whose fields can be shown.
 
 ghost use Rattle.std.specs.Prelude.{OnOk};
-ghost use Rattle.mp4_show.specs.Nesting.{fields, Keeps};
+ghost use Rattle.mp4_shown.specs.Members.{HandsMembers};
 
 use crate::fields::put_extra;
 use mp4_extra::ExtraBox;
-use mp4_show::{FieldSink, Result, put_fields};
+use mp4_show::put_fields;
+use mp4_shown::{FieldSink, Result};
 use mp4_stream::{AnyBox, Either};
 
 /// A box whose fields can be handed to a sink.
 pub trait HasFields {
     /// Hands its fields to a sink, in the order of the box.
     fn put_fields<K: FieldSink>(&self, sink: &mut K) -> Result<()>
-        ensures nesting { OnOk result (Keeps K.since fields sink.old sink.new) };
+        ensures whole { OnOk result (HandsMembers K.trace K.after sink.old sink.new) };
 }
 
 impl HasFields for AnyBox {
+    #[tactic(auto, using(mp4_show::proofs::Handed::kept_members))]
     fn put_fields<K: FieldSink>(&self, sink: &mut K) -> Result<()> {
         put_fields(self, sink)
     }

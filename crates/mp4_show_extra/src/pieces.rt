@@ -1,7 +1,8 @@
 //! Pieces of bytes, one after the other, each of which says how long it is.
 
 ghost use Rattle.std.specs.Prelude.{OnOk};
-ghost use Rattle.mp4_show.specs.Nesting.{fields, entries, Keeps};
+ghost use Rattle.mp4_show.specs.Nesting.{fields, Keeps};
+ghost use Rattle.mp4_shown.specs.Members.{entries};
 
 use mp4_show::{FieldSink, Result, Value};
 

@@ -1,20 +1,10 @@
 //! Values, fields that may not be there, entries, and numbers in bytes.
 
 ghost use Rattle.std.specs.Prelude.{OnOk};
-ghost use Rattle.mp4_show.specs.Nesting.{fields, entries, Keeps};
+ghost use Rattle.mp4_show.specs.Nesting.{fields, Keeps};
+ghost use Rattle.mp4_shown.specs.Members.{entries};
 
 use mp4_show::{FieldSink, Result, Value, put_all};
-
-/// Hands a string that a byte of 0 may end to a sink.
-pub fn put_string<S: FieldSink>(name: &str, bytes: &[u8], sink: &mut S) -> Result<()>
-    ensures nesting { OnOk result (Keeps S.since fields sink.old sink.new) }
-{
-    let text = match bytes.split_last() {
-        Some((0, text)) => text,
-        _ => bytes,
-    };
-    sink.field(name, Value::Text(text))
-}
 
 /// Hands bytes that follow the other fields to a sink, unless there are none.
 pub fn put_rest<S: FieldSink>(bytes: &[u8], sink: &mut S) -> Result<()>

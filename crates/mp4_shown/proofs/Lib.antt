@@ -1,2 +1,4 @@
 mod Named
 mod OneMore
+mod PieceSteps
+mod PastEnd

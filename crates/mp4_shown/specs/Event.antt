@@ -2,6 +2,7 @@
 use Rattle.std.specs.Prelude.{ℕ, ℤ, List, map}
 use denote.Bor.{Bor}
 use Rattle.mp4_frame.specs.declared.four_cc.FourCC.{FourCC}
+use Rattle.mp4_shown.specs.declared.value.Matrix.{Matrix}
 use Rattle.mp4_shown.specs.declared.value.Value.{Value}
 use Rattle.mp4_shown.specs.declared.value.Value.TheVariants as value
 
@@ -38,6 +39,10 @@ pub data Shown : Type 0 where
   -- a number with some of its bits after the point
   fixed : ℕ → ℕ → Shown
   signed_fixed : ℤ → ℕ → Shown
+  -- a number with 64 bits of IEEE 754, by its decimal
+  float : List ℕ → Shown
+  -- the start of an edit in its media
+  media_time : ℤ → Shown
   -- a number that stands for its last bytes
   hex : ℕ → ℕ → Shown
   code : List ℕ → Shown
@@ -45,6 +50,8 @@ pub data Shown : Type 0 where
   -- bytes that are meant as UTF-8
   text : List ℕ → Shown
   bytes : List ℕ → Shown
+  number_list : List ℤ → Shown
+  matrix : Matrix → Shown
 
 abbrev pub bytes_of_code : FourCC → List ℕ
 bytes_of_code c = c.value
@@ -58,11 +65,15 @@ shown_of (value.Flags n digits names) = flags n digits (seen_meanings names).now
 shown_of (value.Date n) = date n
 shown_of (value.Fixed n bits) = fixed n bits
 shown_of (value.SignedFixed z bits) = signed_fixed z bits
+shown_of (value.Float x decimal) = float decimal.now
+shown_of (value.MediaTime z) = media_time z
 shown_of (value.Hex n count) = hex n count
 shown_of (value.Code c) = code (bytes_of_code c)
 shown_of (value.Codes cs) = code_list (map bytes_of_code cs.now)
 shown_of (value.Text s) = text s.now
 shown_of (value.Bytes s) = bytes s.now
+shown_of (value.Numbers zs) = number_list zs.now
+shown_of (value.Matrix m) = matrix m.now
 
 -- a call of a sink
 pub data Event : Type 0 where

@@ -6,3 +6,4 @@ pub mod Runs
 pub mod Lists
 pub mod Shapes
 pub mod Members
+pub mod Pieces

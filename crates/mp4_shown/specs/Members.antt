@@ -9,10 +9,11 @@ use Rattle.mp4_declared.specs.declared.typed.OfType.{OfType}
 use Rattle.mp4_declared.specs.declared.typed.OfType.TheVariants as of_type
 use Rattle.mp4_shown.specs.Event.{Event, number, bytes, field, begin_list, item, begin_entry}
 use Rattle.mp4_shown.specs.Event.{end_entry, end_list, begin_group, end_group}
+use Rattle.mp4_shown.specs.Hands.{Hands}
 use Rattle.mp4_shown.specs.Numbers.{NumberName, is_hidden, value_of, shown_number, shown_signed, shown_in}
 use Rattle.mp4_shown.specs.Numbers.{shown_numbers}
 use Rattle.mp4_shown.specs.Runs.{BytesName, is_ended, unended, shown_text, items_of, shown_items, run_as, shown_run}
-use Rattle.mp4_shown.specs.Lists.{ListName, count_as, entry_of, row_as, shown_list, bytes_item}
+use Rattle.mp4_shown.specs.Lists.{ListName, count_as, entry_of, list_head, row_as, shown_list, bytes_item}
 use Rattle.mp4_shown.specs.Shapes.{shown_if, shown_group, shown_typed}
 use Rattle.mp4_shown.specs.declared.view.View.{View}
 use Rattle.mp4_shown.specs.declared.bytes_name.BytesAs.{BytesAs}
@@ -63,17 +64,25 @@ AreMembers es = (s : List Level) → fold next (Some (members ∷ s)) es ≡ Som
 abbrev pub AreEntries : List Event → Type 0
 AreEntries es = (s : List Level) → fold next (Some (entries ∷ s)) es ≡ Some (entries ∷ s)
 
+-- whole members reach a sink, and nothing else
+abbrev pub HandsMembers : {S T : Type 0} → (S → T) → (T → Event → T) → S → S → Type 0
+HandsMembers trace after old new = (es : List Event) × AreMembers es × Hands trace after old es new
+
 pub members_append : (xs ys : List Event) → AreMembers xs → AreMembers ys → AreMembers (xs ++ ys)
 members_append xs ys a b s =
     fold-append next (Some (members ∷ s)) xs ys ∙ ap (λ (o : Option (List Level)). fold next o ys) (a s) ∙ b s
 
-entries_append : (xs ys : List Event) → AreEntries xs → AreEntries ys → AreEntries (xs ++ ys)
+pub entries_append : (xs ys : List Event) → AreEntries xs → AreEntries ys → AreEntries (xs ++ ys)
 entries_append xs ys a b s =
     fold-append next (Some (entries ∷ s)) xs ys ∙ ap (λ (o : Option (List Level)). fold next o ys) (a s) ∙ b s
 
 pub members_if : (b : Bool) (xs ys : List Event) → AreMembers xs → AreMembers ys → AreMembers (if b then xs else ys)
 members_if true xs ys a b = a
 members_if false xs ys a b = b
+
+pub entries_if : (b : Bool) (xs ys : List Event) → AreEntries xs → AreEntries ys → AreEntries (if b then xs else ys)
+entries_if true xs ys a b = a
+entries_if false xs ys a b = b
 
 -- ---- numbers
 
@@ -118,7 +127,7 @@ whole_entries shown whole (x ∷ xs) =
     entries_append (shown x) (flat_map shown xs) (whole x) (whole_entries shown whole xs)
 
 -- entries between the beginning of a list and its end
-between : (name : List ℕ) (total : ℕ) (es : List Event) → AreEntries es
+pub between : (name : List ℕ) (total : ℕ) (es : List Event) → AreEntries es
     → AreMembers (begin_list name total ∷ (es ++ end_list ∷ []))
 between name total es a s =
     fold-append next (Some (entries ∷ members ∷ s)) es (end_list ∷ [])
@@ -129,16 +138,18 @@ whole_count name list_as.Entries n = λ s. refl
 whole_count name list_as.Counted n = λ s. refl
 whole_count name list_as.Items n = λ s. refl
 
+-- a list of n entries, some of which are shown
+pub list_whole : (l : ListName) (n : ℕ) (es : List Event) → AreEntries es
+    → AreMembers (list_head l n ++ (es ++ end_list ∷ []))
+list_whole l n es whole =
+    subst AreMembers (sym (append_assoc (count_as l.2.now l.1 n) (begin_list l.0.now n ∷ []) (es ++ end_list ∷ [])))
+    (members_append (count_as l.2.now l.1 n) (begin_list l.0.now n ∷ (es ++ end_list ∷ []))
+    (whole_count l.2.now l.1 n) (between l.0.now n es whole))
+
 pub whole_list : {X : Type 0} (l : ListName) (shown : X → List Event) → ((x : X) → AreEntries (shown x)) → (rows : ℕ)
     (xs : List X) → AreMembers (shown_list l shown rows xs)
 whole_list l shown whole rows xs =
-    subst AreMembers
-    (sym (append_assoc (count_as l.2.now l.1 (length xs)) (begin_list l.0.now (length xs) ∷ [])
-    (flat_map shown (take rows xs) ++ end_list ∷ [])))
-    (members_append (count_as l.2.now l.1 (length xs))
-    (begin_list l.0.now (length xs) ∷ (flat_map shown (take rows xs) ++ end_list ∷ []))
-    (whole_count l.2.now l.1 (length xs))
-    (between l.0.now (length xs) (flat_map shown (take rows xs)) (whole_entries shown whole (take rows xs))))
+    list_whole l (length xs) (flat_map shown (take rows xs)) (whole_entries shown whole (take rows xs))
 
 -- ---- bytes
 

@@ -5,6 +5,30 @@ use mp4_frame::FourCC;
 /// A number, or the bit of a flag, and what it means.
 pub type Meaning = (u64, &'static str);
 
+/// A transformation of video: its numbers, in the order of the file (ISO/IEC 14496-12, 6.2.2). `u`, `v` and `w` have 30
+/// bits after the point, the others 16.
+#[derive(Clone, Copy, Debug, PartialEq, Eq)]
+pub struct Matrix {
+    /// The factor of p in m.
+    pub a: i32,
+    /// The factor of p in n.
+    pub b: i32,
+    /// The factor of p in z.
+    pub u: i32,
+    /// The factor of q in m.
+    pub c: i32,
+    /// The factor of q in n.
+    pub d: i32,
+    /// The factor of q in z.
+    pub v: i32,
+    /// The constant term of m.
+    pub x: i32,
+    /// The constant term of n.
+    pub y: i32,
+    /// The constant term of z.
+    pub w: i32,
+}
+
 /// The value of a field, with what it means.
 #[derive(Clone, Copy)]
 pub enum Value<'a> {
@@ -22,6 +46,10 @@ pub enum Value<'a> {
     Fixed(u64, u32),
     /// A fixed-point number that may be negative.
     SignedFixed(i64, u32),
+    /// A number with 64 bits of IEEE 754, and the decimal that stands for it in JSON.
+    Float(f64, &'a str),
+    /// The time in its media at which an edit begins; -1 is an empty edit (ISO/IEC 14496-12, 8.6.6).
+    MediaTime(i64),
     /// Bytes that the box keeps as a number: the number, and how many bytes it stands for, at most 8.
     Hex(u64, usize),
     /// A code of four characters.
@@ -32,4 +60,8 @@ pub enum Value<'a> {
     Text(&'a [u8]),
     /// Bytes that are no text.
     Bytes(&'a [u8]),
+    /// A few numbers, one after the other.
+    Numbers(&'a [i16]),
+    /// A transformation of video.
+    Matrix(&'a Matrix),
 }

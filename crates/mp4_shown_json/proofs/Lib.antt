@@ -1,3 +1,4 @@
-mod AllTokens
+pub mod AllTokens
 mod Fraction
-mod Whole
+pub mod Puts
+pub mod Whole

@@ -1,5 +1,6 @@
 -- The tokens of whole members are the members of an object.
-use Rattle.std.proofs.Common.{◌≡◌, ℕ, List, [], ◌∷◌, ◌++◌, map, refl, sym, ap, subst, ◌∙◌, append_assoc, append-nil}
+use Rattle.std.proofs.Common.{◌≡◌, ℕ, ℤ, Bool, true, false, List, [], ◌∷◌, ◌++◌, map, refl, sym, ap, subst, ◌∙◌}
+use Rattle.std.proofs.Common.{append_assoc, append-nil}
 use Rattle.std.specs.Prelude.{Option, Some, None, ⊤, codes}
 use Rattle.std.specs.List.{fold}
 use Rattle.json.specs.Json.{Json, array, object, Items, no_items, item, Members, no_members, member}
@@ -9,9 +10,10 @@ use Rattle.mp4_shown.specs.Event.{Event, Shown}
 use Rattle.mp4_shown.specs.Event as shown
 use Rattle.mp4_shown.specs.Members.{Level, members, entries, back_in_members, back_in_entries, in_members, in_entries}
 use Rattle.mp4_shown.specs.Members.{next}
+use Rattle.mp4_shown.specs.declared.value.Matrix.{Matrix}
 use Rattle.mp4_shown.specs.Members.{AreMembers}
 use Rattle.mp4_shown_json.specs.Tokens.{code_text, code_token, value_tokens, meaning_tokens, field_tokens, tokens_of}
-use Rattle.mp4_shown_json.specs.Tokens.{all_tokens}
+use Rattle.mp4_shown_json.specs.Tokens.{all_tokens, is_number, decimal_token, signed_token, matrix_members}
 use Rattle.mp4_shown_json.specs.Whole.{tokens_of_items, tokens_of_members, IsWhole, AreWhole, IsName, bracket}
 use Rattle.mp4_shown_json.specs.Whole.{end_bracket}
 
@@ -92,14 +94,14 @@ none_whole entries = (no_items, refl)
 -- ---- levels that are begun
 
 -- The tokens in a level that is begun in others: those before it, its name, its bracket, and those in it.
-abbrev Written : Level → List Level → List Token → Type 0
+abbrev pub Written : Level → List Level → List Token → Type 0
 Written level [] ts = AreWhole level ts
 Written level (outer ∷ levels) ts =
     (before name inner : List Token) × Written outer levels before × IsName outer name × AreWhole level inner
     × (ts ≡ before ++ (name ++ bracket level ∷ inner))
 
 -- a named value after others
-value_put : (level : Level) (levels : List Level) (ts name value : List Token) → Written level levels ts
+pub value_put : (level : Level) (levels : List Level) (ts name value : List Token) → Written level levels ts
     → IsName level name → IsWhole value → Written level levels (ts ++ (name ++ value))
 value_put level [] ts name value all named whole = more_whole level ts name value all named whole
 value_put level (outer ∷ levels) ts name value (before, head, inner, so, is_head, all, is) named whole = (
@@ -115,7 +117,7 @@ value_put level (outer ∷ levels) ts name value (before, head, inner, so, is_he
 )
 
 -- a level that has ended
-level_put : (outer inner : Level) (levels : List Level) (ts : List Token) → Written inner (outer ∷ levels) ts
+pub level_put : (outer inner : Level) (levels : List Level) (ts : List Token) → Written inner (outer ∷ levels) ts
     → Written outer levels (ts ++ end_bracket inner ∷ [])
 level_put outer inner levels ts (before, name, put, so, named, all, is) =
     let ended : ts ++ end_bracket inner ∷ [] ≡ before ++ (name ++ bracket inner ∷ (put ++ end_bracket inner ∷ [])) =
@@ -134,6 +136,25 @@ codes_are_items (c ∷ cs) =
     let (js, is) = codes_are_items cs in
     (item (Json.string (code_text c)) js, ap (λ (ts : List Token). code_token c ∷ ts) is)
 
+numbers_are_items : (zs : List ℤ) → AreWhole entries (map signed_token zs)
+numbers_are_items [] = (no_items, refl)
+numbers_are_items (z ∷ zs) =
+    let (js, is) = numbers_are_items zs in
+    (item (Json.number _) js, ap (λ (ts : List Token). signed_token z ∷ ts) is)
+
+decimal_is_whole : (b : Bool) (text : List ℕ) → IsWhole (decimal_token b text ∷ [])
+decimal_is_whole true text = (Json.number text, refl)
+decimal_is_whole false text = (Json.string text, refl)
+
+matrix_is_whole : (m : Matrix) → AreWhole members (matrix_members m)
+matrix_is_whole m = (
+  member (codes "a") (Json.number _) (member (codes "b") (Json.number _) (member (codes "u") (Json.number _)
+      (member (codes "c") (Json.number _) (member (codes "d") (Json.number _) (member (codes "v") (Json.number _)
+      (member (codes "x") (Json.number _) (member (codes "y") (Json.number _) (member (codes "w") (Json.number _)
+      no_members)))))))),
+  refl,
+)
+
 value_is_whole : (v : Shown) → IsWhole (value_tokens v)
 value_is_whole (shown.number n) = (Json.number _, refl)
 value_is_whole (shown.signed z) = (Json.number _, refl)
@@ -142,11 +163,15 @@ value_is_whole (shown.flags n digits meanings) = (Json.number _, refl)
 value_is_whole (shown.date n) = (Json.number _, refl)
 value_is_whole (shown.fixed n bits) = (Json.number _, refl)
 value_is_whole (shown.signed_fixed z bits) = (Json.number _, refl)
+value_is_whole (shown.float text) = decimal_is_whole (is_number text) text
+value_is_whole (shown.media_time z) = (Json.number _, refl)
 value_is_whole (shown.hex n count) = (Json.string _, refl)
 value_is_whole (shown.code bytes) = (Json.string _, refl)
 value_is_whole (shown.code_list cs) = closed_whole entries (map code_token cs) (codes_are_items cs)
 value_is_whole (shown.text t) = (Json.string _, refl)
 value_is_whole (shown.bytes bs) = (Json.string _, refl)
+value_is_whole (shown.number_list zs) = closed_whole entries (map signed_token zs) (numbers_are_items zs)
+value_is_whole (shown.matrix m) = closed_whole members (matrix_members m) (matrix_is_whole m)
 
 -- nothing more
 none_put : (levels : List Level) (ts : List Token) → Written members levels ts → Written members levels (ts ++ [])
@@ -163,11 +188,15 @@ meaning_put (shown.flags n digits meanings) levels ts name so = none_put levels 
 meaning_put (shown.date n) levels ts name so = none_put levels ts so
 meaning_put (shown.fixed n bits) levels ts name so = none_put levels ts so
 meaning_put (shown.signed_fixed z bits) levels ts name so = none_put levels ts so
+meaning_put (shown.float text) levels ts name so = none_put levels ts so
+meaning_put (shown.media_time z) levels ts name so = none_put levels ts so
 meaning_put (shown.hex n count) levels ts name so = none_put levels ts so
 meaning_put (shown.code bytes) levels ts name so = none_put levels ts so
 meaning_put (shown.code_list cs) levels ts name so = none_put levels ts so
 meaning_put (shown.text t) levels ts name so = none_put levels ts so
 meaning_put (shown.bytes bs) levels ts name so = none_put levels ts so
+meaning_put (shown.number_list zs) levels ts name so = none_put levels ts so
+meaning_put (shown.matrix m) levels ts name so = none_put levels ts so
 
 field_put : (v : Shown) (levels : List Level) (ts : List Token) (name : List ℕ) → Written members levels ts
     → Written members levels (ts ++ field_tokens name v)

@@ -3,7 +3,9 @@ use Rattle.std.specs.Prelude.{◌≡◌, ℕ, List, [], ◌∷◌, ◌++◌}
 use Rattle.json.specs.Json.{Json, Items, no_items, item, Members, no_members, member}
 use Rattle.json.specs.Token.{Token}
 use Rattle.json.specs.Tree.{json_tokens}
+use Rattle.json.specs.Written.{Written}
 use Rattle.mp4_shown.specs.Members.{Level, members, entries}
+use Rattle.mp4_shown_json.specs.Tokens.{Puts}
 
 -- the items of an array, with no bracket
 abbrev pub tokens_of_items : Items → List Token
@@ -36,3 +38,7 @@ bracket entries = Token.begin_array
 abbrev pub end_bracket : Level → Token
 end_bracket members = Token.end_object
 end_bracket entries = Token.end_array
+
+-- whole members or items are written
+abbrev pub PutsAll : Level → Written → Written → Type 0
+PutsAll level old new = (ts : List Token) × AreWhole level ts × Puts old new ts

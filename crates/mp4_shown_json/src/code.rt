@@ -7,7 +7,7 @@ use mp4_frame::FourCC;
 use mp4_shown::Result;
 
 /// Appends the four bytes of a code, each as the character of its number.
-pub(crate) fn push_latin(code: FourCC, out: &mut String) -> Result<()>
+pub fn push_latin(code: FourCC, out: &mut String) -> Result<()>
     ensures text { OnOk result (string_bytes out.new ≡ string_bytes out.old ++ code_text code.value) }
 {
     for byte in &code.value {

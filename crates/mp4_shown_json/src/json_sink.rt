@@ -1,20 +1,23 @@
 //! The fields of a box as JSON.
 
 ghost use Rattle.std.specs.Prelude.{◌≡◌, ℕ, ◌^◌, ◌-◌, true, false, List, [], ◌∷◌, ◌++◌, OnOk, codes, map};
+ghost use Rattle.std.specs.Str.{IsUtf8};
 ghost use Rattle.std.specs.Str.Lossy.{utf8_lossy};
 ghost use Rattle.hex.specs.Hex.{encode_lower};
 ghost use Rattle.json.specs.Print.{print};
-ghost use Rattle.json.specs.Token.{Token, begin_array, end_array, key, number, string};
+ghost use Rattle.json.specs.Token.{Token, begin_array, begin_object, end_array, end_object, key, number, string};
 ghost use Rattle.mp4_shown.specs.Event.{bytes_of_code, shown_of};
 ghost use Rattle.mp4_shown_json.specs.Fixed.{fixed_text};
-ghost use Rattle.mp4_shown_json.specs.Tokens.{Puts, code_text, code_token, last_bytes, meaning_tokens, then_event};
-ghost use Rattle.mp4_shown_json.specs.Tokens.{value_tokens};
+ghost use Rattle.mp4_shown_json.specs.Tokens.{Puts, code_text, code_token, decimal_token, first_row, fixed_member};
+ghost use Rattle.mp4_shown_json.specs.Tokens.{is_number, last_bytes, matrix_members, meaning_tokens, second_row};
+ghost use Rattle.mp4_shown_json.specs.Tokens.{signed_token, then_event, third_row, value_tokens};
 
 use crate::code::push_latin;
+use crate::decimal::is_number;
 use crate::fixed::push_fixed;
 use json::Writer;
 use mp4_frame::FourCC;
-use mp4_shown::{FieldSink, Result, Value, View};
+use mp4_shown::{FieldSink, Matrix, Result, Value, View};
 use std::alloc::Global;
 
 /// Takes the fields of a box as members of a JSON object.
@@ -40,13 +43,14 @@ impl JsonSink {
     /// Returns the text of what is written.
     pub fn into_text(self) -> Vec<u8>
         ensures text { result.items ≡ self.out.before ++ print self.out.tokens }
+        ensures utf8 { IsUtf8 (print self.out.tokens) }
     {
         let JsonSink { alloc: _, out } = self;
         out.into_inner()
     }
 
     /// Writes a code: a text of four characters, each of the number of its byte.
-    fn code(&mut self, code: FourCC) -> Result<()>
+    pub fn code(&mut self, code: FourCC) -> Result<()>
         ensures { OnOk result (Puts self.old.out self.new.out (string (code_text code.value) ∷ [])) }
     {
         let mut text = String::new(self.alloc);
@@ -112,6 +116,96 @@ impl JsonSink {
         Ok(())
     }
 
+    /// Writes a decimal: as a number if JSON has it as one, and otherwise as text.
+    fn decimal(&mut self, text: &str) -> Result<()>
+        ensures { OnOk result (Puts self.old.out self.new.out (decimal_token (is_number text.now) text.now ∷ [])) }
+    {
+        if is_number(text) {
+            self.out.number(text)?;
+        } else {
+            self.out.string(text)?;
+        }
+        Ok(())
+    }
+
+    /// Writes a whole number that may be negative.
+    fn signed(&mut self, number: i64) -> Result<()>
+        ensures { OnOk result (Puts self.old.out self.new.out (signed_token number ∷ [])) }
+    {
+        self.out.i64(number)?;
+        Ok(())
+    }
+
+    /// Writes numbers, one after the other.
+    fn number_items(&mut self, numbers: &[i16]) -> Result<()>
+        ensures { OnOk result (Puts self.old.out self.new.out (map signed_token numbers.now)) }
+    {
+        for number in numbers {
+            self.signed(i64::from(*number))?;
+        }
+        Ok(())
+    }
+
+    /// Writes numbers as an array.
+    fn numbers(&mut self, numbers: &[i16]) -> Result<()>
+        ensures { OnOk result (Puts self.old.out self.new.out
+            (begin_array ∷ (map signed_token numbers.now ++ end_array ∷ []))) }
+    {
+        self.out.begin_array()?;
+        self.number_items(numbers)?;
+        self.out.end_array()?;
+        Ok(())
+    }
+
+    /// Writes a member that is a fixed-point number.
+    fn fixed_member(&mut self, name: &str, number: i32, bits: u32) -> Result<()>
+        ensures { OnOk result (Puts self.old.out self.new.out (fixed_member name.now number bits)) }
+    {
+        let number = i64::from(number);
+        self.out.key(name)?;
+        self.fixed(number.is_negative(), number.unsigned_abs(), bits)
+    }
+
+    /// Writes the first three members of a transformation.
+    fn first_row(&mut self, matrix: &Matrix) -> Result<()>
+        ensures { OnOk result (Puts self.old.out self.new.out (first_row matrix.now)) }
+    {
+        self.fixed_member("a", matrix.a, 16)?;
+        self.fixed_member("b", matrix.b, 16)?;
+        self.fixed_member("u", matrix.u, 30)
+    }
+
+    /// Writes the next three members of a transformation.
+    fn second_row(&mut self, matrix: &Matrix) -> Result<()>
+        ensures { OnOk result (Puts self.old.out self.new.out (second_row matrix.now)) }
+    {
+        self.fixed_member("c", matrix.c, 16)?;
+        self.fixed_member("d", matrix.d, 16)?;
+        self.fixed_member("v", matrix.v, 30)
+    }
+
+    /// Writes the last three members of a transformation.
+    fn third_row(&mut self, matrix: &Matrix) -> Result<()>
+        ensures { OnOk result (Puts self.old.out self.new.out (third_row matrix.now)) }
+    {
+        self.fixed_member("x", matrix.x, 16)?;
+        self.fixed_member("y", matrix.y, 16)?;
+        self.fixed_member("w", matrix.w, 30)
+    }
+
+    /// Writes a transformation as an object.
+    fn matrix(&mut self, matrix: &Matrix) -> Result<()>
+        ensures { OnOk result (Puts self.old.out self.new.out
+            (begin_object ∷ (matrix_members matrix.now ++ end_object ∷ []))) }
+    {
+        self.out.begin_object()?;
+        self.first_row(matrix)?;
+        self.second_row(matrix)?;
+        self.third_row(matrix)?;
+        self.out.end_object()?;
+        Ok(())
+    }
+
     /// Writes a value.
     fn value(&mut self, value: Value<'_>) -> Result<()>
         ensures { OnOk result (Puts self.old.out self.new.out (value_tokens (shown_of value.entry))) }
@@ -124,10 +218,8 @@ impl JsonSink {
                 self.out.u64(number)?;
                 Ok(())
             }
-            Value::Signed(number) => {
-                self.out.i64(number)?;
-                Ok(())
-            }
+            Value::Signed(number) | Value::MediaTime(number) => self.signed(number),
+            Value::Float(_, decimal) => self.decimal(decimal),
             Value::Fixed(number, bits) => self.fixed(false, number, bits),
             Value::SignedFixed(number, bits) => {
                 self.fixed(number.is_negative(), number.unsigned_abs(), bits)
@@ -137,6 +229,8 @@ impl JsonSink {
             Value::Codes(codes) => self.codes(codes),
             Value::Text(text) => self.text(text),
             Value::Bytes(bytes) => self.bytes(bytes),
+            Value::Numbers(numbers) => self.numbers(numbers),
+            Value::Matrix(matrix) => self.matrix(matrix),
         }
     }
 
@@ -169,7 +263,11 @@ impl JsonSink {
             | Value::Code(_)
             | Value::Codes(_)
             | Value::Text(_)
-            | Value::Bytes(_) => Ok(()),
+            | Value::Bytes(_)
+            | Value::Float(_, _)
+            | Value::MediaTime(_)
+            | Value::Numbers(_)
+            | Value::Matrix(_) => Ok(()),
         }
     }
 }

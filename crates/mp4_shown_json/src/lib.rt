@@ -2,9 +2,11 @@
 #![tactic(auto)]
 
 mod code;
+mod decimal;
 mod fields_json;
 mod fixed;
 mod json_sink;
 
+pub use code::push_latin;
 pub use fields_json::json_of;
 pub use json_sink::JsonSink;

@@ -4,9 +4,12 @@
 
 mod fields;
 mod fields_auxiliary;
+mod fields_decoded;
+mod fields_groups;
 mod fields_protection;
 mod fields_samples;
 mod fields_segments;
+mod fields_sizes;
 mod fields_tracks;
 mod lists;
 mod numbers;

@@ -5,8 +5,9 @@ ghost use Rattle.mp4_show.specs.Nesting.{fields, Keeps};
 
 use crate::brief::put_full;
 use crate::flag_names::NONE;
-use crate::sink::{FieldSink, Result, put_all};
-use crate::value::{Value, fixed, number};
+use crate::sink::{FieldSink, put_all};
+use crate::value::{fixed, number};
+use mp4_shown::{Result, Value};
 use mp4_stream::{
     Avc1Box, AvcCBox, Hev1Box, HvcCBox, NalUnit, RgbaColor, Tx3gBox, Vp09Box, VpccBox,
 };
@@ -112,7 +113,7 @@ pub fn put_hev1<S: FieldSink>(b: &Hev1Box, sink: &mut S) -> Result<()>
 /// A resolution of 16.16 bits, of which the codec keeps both halves.
 fn resolution(halves: (u16, u16)) -> Value<'static> {
     let (whole, part) = halves;
-    Value::Fixed(i64::from(whole) * 65_536 + i64::from(part), 16)
+    Value::Fixed(u64::from(whole) * 65_536 + u64::from(part), 16)
 }
 
 /// A sample entry of VP9 video (VP Codec ISO Media File Format Binding, 2.1).
@@ -170,7 +171,10 @@ pub fn put_tx3g<S: FieldSink>(b: &Tx3gBox, sink: &mut S) -> Result<()>
     ensures nesting { OnOk result (Keeps S.since fields sink.old sink.new) }
 {
     sink.field("data_reference_index", number(b.data_reference_index))?;
-    sink.field("display_flags", Value::Flags(b.display_flags, 8, NONE))?;
+    sink.field(
+        "display_flags",
+        Value::Flags(u64::from(b.display_flags), 8, NONE),
+    )?;
     put_justification(b.horizontal_justification, b.vertical_justification, sink)?;
     sink.begin_group("bg_color_rgba")?;
     put_color(&b.bg_color_rgba, sink)?;

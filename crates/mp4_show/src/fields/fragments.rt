@@ -1,13 +1,15 @@
 //! The fields of the boxes of movie fragments.
 
 ghost use Rattle.std.specs.Prelude.{OnOk};
-ghost use Rattle.mp4_show.specs.Nesting.{fields, entries, Keeps};
+ghost use Rattle.mp4_show.specs.Nesting.{fields, Keeps};
+ghost use Rattle.mp4_shown.specs.Members.{entries};
 
 use crate::brief::put_full;
 use crate::flag_names::{NONE, SAMPLE, TRACK_FRAGMENT, TRACK_RUN};
 use crate::lists::put_numbers;
-use crate::sink::{FieldSink, Result, put_all};
-use crate::value::{Value, number};
+use crate::sink::{FieldSink, put_all};
+use crate::value::number;
+use mp4_shown::{Result, Value};
 use mp4_stream::{MehdBox, MfhdBox, TfdtBox, TfhdBox, TrexBox, TrunBox};
 
 /// Movie extends header (ISO/IEC 14496-12, 8.8.2).
@@ -64,7 +66,7 @@ pub fn put_if_some<S: FieldSink>(name: &str, value: Option<u32>, sink: &mut S) -
 
 /// Returns the flags of a sample as a value.
 fn sample_flags(flags: u32) -> Value<'static> {
-    Value::Flags(flags, 8, SAMPLE)
+    Value::Flags(u64::from(flags), 8, SAMPLE)
 }
 
 /// Hands the flags of a sample to a sink, if they are there.

@@ -5,8 +5,9 @@ ghost use Rattle.mp4_show.specs.Nesting.{fields, Keeps};
 
 use crate::brief::{put_full, put_location};
 use crate::flag_names::NONE;
-use crate::sink::{FieldSink, Result, put_all};
-use crate::value::{Value, number};
+use crate::sink::{FieldSink, put_all};
+use crate::value::number;
+use mp4_shown::{Result, Value};
 use mp4_stream::{DinfBox, DrefBox, SmhdBox, UrlBox, VmhdBox};
 
 /// Video media header (ISO/IEC 14496-12, 12.1.2).
@@ -30,7 +31,10 @@ pub fn put_smhd<S: FieldSink>(b: &SmhdBox, sink: &mut S) -> Result<()>
     ensures nesting { OnOk result (Keeps S.since fields sink.old sink.new) }
 {
     put_full(b.version, b.flags, NONE, sink)?;
-    sink.field("balance", Value::Fixed(i64::from(b.balance.raw_value()), 8))
+    sink.field(
+        "balance",
+        Value::SignedFixed(i64::from(b.balance.raw_value()), 8),
+    )
 }
 
 /// A reference to media data by a location (ISO/IEC 14496-12, 8.7.2).

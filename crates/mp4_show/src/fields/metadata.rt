@@ -5,8 +5,9 @@ ghost use Rattle.mp4_show.specs.Nesting.{fields, Keeps};
 
 use crate::brief::{put_data, put_data_type, put_full};
 use crate::flag_names::NONE;
-use crate::sink::{FieldSink, Result, put_all};
-use crate::value::{Value, number};
+use crate::sink::{FieldSink, put_all};
+use crate::value::number;
+use mp4_shown::{Result, Value};
 use mp4_stream::{DataBox, DataType, EmsgBox};
 
 /// The number of a type of metadata values.

@@ -5,8 +5,9 @@ ghost use Rattle.mp4_show.specs.Nesting.{fields, Keeps};
 
 use crate::brief::put_full;
 use crate::flag_names::NONE;
-use crate::sink::{FieldSink, Result, put_all};
-use crate::value::{Value, number, signed_rate, signed_volume};
+use crate::sink::{FieldSink, put_all};
+use crate::value::{number, put_matrix, signed_rate, signed_volume};
+use mp4_shown::{Result, Value};
 use mp4_stream::{FtypBox, MvhdBox};
 
 /// File type (ISO/IEC 14496-12, 4.3).
@@ -34,8 +35,8 @@ pub fn put_mvhd<S: FieldSink>(b: &MvhdBox, sink: &mut S) -> Result<()>
         ("duration", number(b.duration)),
         ("rate", signed_rate(b.rate)),
         ("volume", signed_volume(b.volume)),
-        ("matrix", Value::Matrix(&b.matrix)),
-        ("next_track_id", number(b.next_track_id)),
     ];
-    put_all(&row, sink)
+    put_all(&row, sink)?;
+    put_matrix(&b.matrix, sink)?;
+    sink.field("next_track_id", number(b.next_track_id))
 }

@@ -1,13 +1,15 @@
 //! The fields of the tables of samples.
 
 ghost use Rattle.std.specs.Prelude.{OnOk};
-ghost use Rattle.mp4_show.specs.Nesting.{fields, entries, Keeps};
+ghost use Rattle.mp4_show.specs.Nesting.{fields, Keeps};
+ghost use Rattle.mp4_shown.specs.Members.{entries};
 
 use crate::brief::put_full;
 use crate::flag_names::NONE;
 use crate::lists::put_numbers;
-use crate::sink::{FieldSink, Result, put_all};
-use crate::value::{Value, number};
+use crate::sink::{FieldSink, put_all};
+use crate::value::number;
+use mp4_shown::{Result, Value};
 use mp4_stream::{
     Co64Box, CttsBox, CttsEntry, StcoBox, StscBox, StscEntry, StssBox, StszBox, SttsBox, SttsEntry,
 };

@@ -6,8 +6,9 @@ ghost use Rattle.mp4_show.specs.Nesting.{fields, Keeps};
 use crate::brief::put_full;
 use crate::fields::entries::{put_avc1, put_hev1, put_tx3g, put_vp09};
 use crate::flag_names::NONE;
-use crate::sink::{FieldSink, Result, put_all};
+use crate::sink::{FieldSink, put_all};
 use crate::value::{fixed, number};
+use mp4_shown::Result;
 use mp4_stream::{DecoderConfigDescriptor, DecoderSpecificDescriptor, EsdsBox, Mp4aBox, StsdBox};
 
 fn put_specific<S: FieldSink>(d: &DecoderSpecificDescriptor, sink: &mut S) -> Result<()>

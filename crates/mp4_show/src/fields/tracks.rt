@@ -1,13 +1,15 @@
 //! The fields of the boxes of a track: its header, its edits, its media's header and handler.
 
 ghost use Rattle.std.specs.Prelude.{OnOk};
-ghost use Rattle.mp4_show.specs.Nesting.{fields, entries, Keeps};
+ghost use Rattle.mp4_show.specs.Nesting.{fields, Keeps};
+ghost use Rattle.mp4_shown.specs.Members.{entries};
 
 use crate::brief::{put_full, put_named_handler};
 use crate::flag_names::{NONE, TRACK};
 use crate::language::language_value;
-use crate::sink::{FieldSink, Result, put_all};
-use crate::value::{Value, fixed, number, signed, signed_volume};
+use crate::sink::{FieldSink, put_all};
+use crate::value::{fixed, number, put_matrix, signed, signed_volume};
+use mp4_shown::{Result, Value};
 use mp4_stream::{ElstBox, ElstEntry, HdlrBox, MdhdBox, TkhdBox};
 
 /// Track header (ISO/IEC 14496-12, 8.3.2).
@@ -23,7 +25,10 @@ pub fn put_tkhd<S: FieldSink>(b: &TkhdBox, sink: &mut S) -> Result<()>
         ("layer", signed(b.layer)),
         ("alternate_group", signed(b.alternate_group)),
         ("volume", signed_volume(b.volume)),
-        ("matrix", Value::Matrix(&b.matrix)),
+    ];
+    put_all(&row, sink)?;
+    put_matrix(&b.matrix, sink)?;
+    let row = [
         ("width", fixed(b.width.raw_value())),
         ("height", fixed(b.height.raw_value())),
     ];

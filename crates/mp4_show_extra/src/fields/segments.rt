@@ -1,78 +1,13 @@
-//! The fields of the boxes of segments and of fragments.
+//! The fields of the fragments from which a track can be played.
 
 ghost use Rattle.std.specs.Prelude.{OnOk};
-ghost use Rattle.mp4_show.specs.Nesting.{fields, entries, Keeps};
+ghost use Rattle.mp4_show.specs.Nesting.{fields, Keeps};
+ghost use Rattle.mp4_shown.specs.Members.{entries};
 
-use crate::entries::{Entry, put_each};
 use crate::flag_names::NONE;
 use crate::put::{number_in, put_entry};
-use mp4_extra::{Mfro, Prft, Sidx, SidxEntry, Styp, Tfra};
+use mp4_extra::Tfra;
 use mp4_show::{FieldSink, Result, Value, number, put_all, put_full};
-
-/// The specifications that a segment follows (ISO/IEC 14496-12, 8.16.2).
-pub fn put_styp<S: FieldSink>(b: &Styp, sink: &mut S) -> Result<()>
-    ensures nesting { OnOk result (Keeps S.since fields sink.old sink.new) }
-{
-    sink.field("major_brand", Value::Code(b.major_brand))?;
-    sink.field("minor_version", number(b.minor_version))?;
-    sink.field(
-        "compatible_brands",
-        Value::Codes(b.compatible_brands.as_slice()),
-    )
-}
-
-impl Entry for SidxEntry {
-    fn put<S: FieldSink>(&self, sink: &mut S) -> Result<()> {
-        let row = [
-            ("reference_type", number(self.reference_type)),
-            ("referenced_size", number(self.referenced_size)),
-            ("subsegment_duration", number(self.subsegment_duration)),
-            ("starts_with_SAP", number(self.starts_with_sap)),
-            ("SAP_type", number(self.sap_type)),
-            ("SAP_delta_time", number(self.sap_delta_time)),
-        ];
-        put_all(&row, sink)
-    }
-}
-
-/// Where the parts of a segment's media are (ISO/IEC 14496-12, 8.16.3).
-pub fn put_sidx<S: FieldSink>(b: &Sidx, sink: &mut S) -> Result<()>
-    ensures nesting { OnOk result (Keeps S.since fields sink.old sink.new) }
-{
-    put_full(b.version, b.flags, NONE, sink)?;
-    let row = [
-        ("reference_ID", number(b.reference_id)),
-        ("timescale", number(b.timescale)),
-        (
-            "earliest_presentation_time",
-            number(b.earliest_presentation_time),
-        ),
-        ("first_offset", number(b.first_offset)),
-    ];
-    put_all(&row, sink)?;
-    put_each("references", b.entries.as_slice(), sink)
-}
-
-/// When a producer made a part of the media (ISO/IEC 14496-12, 8.16.5).
-pub fn put_prft<S: FieldSink>(b: &Prft, sink: &mut S) -> Result<()>
-    ensures nesting { OnOk result (Keeps S.since fields sink.old sink.new) }
-{
-    put_full(b.version, b.flags, NONE, sink)?;
-    let row = [
-        ("reference_track_ID", number(b.reference_track_id)),
-        ("ntp_timestamp", number(b.ntp_timestamp)),
-        ("media_time", number(b.media_time)),
-    ];
-    put_all(&row, sink)
-}
-
-/// How long the `mfra` is (ISO/IEC 14496-12, 8.8.11).
-pub fn put_mfro<S: FieldSink>(b: &Mfro, sink: &mut S) -> Result<()>
-    ensures nesting { OnOk result (Keeps S.since fields sink.old sink.new) }
-{
-    put_full(b.version, b.flags, NONE, sink)?;
-    sink.field("parent_size", number(b.parent_size))
-}
 
 /// How many bytes the numbers of an entry of a `tfra` have.
 #[derive(Clone, Copy)]

@@ -5,24 +5,8 @@ ghost use Rattle.mp4_show.specs.Nesting.{fields, Keeps};
 
 use crate::pieces::{Pieces, bytes_from, count_pieces, put_list, whole};
 use crate::put::{number_in, put_rest};
-use mp4_extra::{Dac3, Dec3, Dops};
+use mp4_extra::{Dec3, Dops};
 use mp4_show::{FieldSink, Result, Value, number, put_all};
-
-/// How to decode AC-3 sound (ETSI TS 102 366, F.4).
-pub fn put_dac3<S: FieldSink>(b: &Dac3, sink: &mut S) -> Result<()>
-    ensures nesting { OnOk result (Keeps S.since fields sink.old sink.new) }
-{
-    let c = b.config;
-    let row = [
-        ("fscod", number(c.fscod)),
-        ("bsid", number(c.bsid)),
-        ("bsmod", number(c.bsmod)),
-        ("acmod", number(c.acmod)),
-        ("lfeon", number(c.lfeon)),
-        ("bit_rate_code", number(c.bit_rate_code)),
-    ];
-    put_all(&row, sink)
-}
 
 /// The independent streams of Enhanced AC-3 sound (ETSI TS 102 366, F.6): 3 bytes of each, and 4 of one on which other
 /// streams depend.
@@ -110,7 +94,10 @@ pub fn put_dops<S: FieldSink>(b: &Dops, sink: &mut S) -> Result<()>
         ("OutputChannelCount", number(b.output_channel_count)),
         ("PreSkip", number(b.pre_skip)),
         ("InputSampleRate", number(b.input_sample_rate)),
-        ("OutputGain", Value::Fixed(i64::from(b.output_gain), 8)),
+        (
+            "OutputGain",
+            Value::SignedFixed(i64::from(b.output_gain), 8),
+        ),
         ("ChannelMappingFamily", number(b.channel_mapping_family)),
     ];
     put_all(&row, sink)?;

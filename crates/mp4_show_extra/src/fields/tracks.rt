@@ -1,26 +1,13 @@
-//! The fields of what is said of a track, of its media and of its metadata.
+//! The fields of values of metadata and of references between tracks.
 
 ghost use Rattle.std.specs.Prelude.{OnOk};
-ghost use Rattle.mp4_show.specs.Nesting.{fields, entries, Keeps};
+ghost use Rattle.mp4_show.specs.Nesting.{fields, Keeps};
+ghost use Rattle.mp4_shown.specs.Members.{entries};
 
-use crate::entries::{Entry, put_each};
-use crate::flag_names::NONE;
-use crate::put::{put_entry, put_string};
-use mp4_extra::{Btrt, Data, Elng, Keys, Kind, MetadataKey, Nmhd, TrackReference, Tref};
-use mp4_show::{FieldSink, Result, Value, number, put_all, put_data, put_data_type, put_full};
+use crate::put::put_entry;
+use mp4_extra::{Data, TrackReference, Tref};
+use mp4_show::{FieldSink, Result, Value, number, put_data, put_data_type};
 use mp4_stream::FourCC;
-
-/// The bit rates of media (ISO/IEC 14496-12, 8.5.2.2).
-pub fn put_btrt<S: FieldSink>(b: &Btrt, sink: &mut S) -> Result<()>
-    ensures nesting { OnOk result (Keeps S.since fields sink.old sink.new) }
-{
-    let row = [
-        ("bufferSizeDB", number(b.buffer_size_db)),
-        ("maxBitrate", number(b.max_bitrate)),
-        ("avgBitrate", number(b.avg_bitrate)),
-    ];
-    put_all(&row, sink)
-}
 
 /// Returns the letters of the packed code of a language (ISO 639-2); its highest bit is 0.
 fn language_letters(code: u16) -> [u8; 3] {
@@ -55,47 +42,6 @@ pub fn put_data_value<S: FieldSink>(b: &Data, sink: &mut S) -> Result<()>
     put_locale("country", b.country, &b.country.to_be_bytes(), sink)?;
     put_locale("language", b.language, &language_letters(b.language), sink)?;
     put_data(data_type, b.value.as_slice(), sink)
-}
-
-/// The language of media (ISO/IEC 14496-12, 8.4.6).
-pub fn put_elng<S: FieldSink>(b: &Elng, sink: &mut S) -> Result<()>
-    ensures nesting { OnOk result (Keeps S.since fields sink.old sink.new) }
-{
-    put_full(b.version, b.flags, NONE, sink)?;
-    put_string("extended_language", b.extended_language.as_slice(), sink)
-}
-
-impl Entry for MetadataKey {
-    fn put<S: FieldSink>(&self, sink: &mut S) -> Result<()> {
-        sink.field("Key_namespace", Value::Code(self.namespace))?;
-        put_string("Key_value", self.value.as_slice(), sink)
-    }
-}
-
-/// The keys of metadata (QuickTime File Format, "Metadata item keys atom").
-pub fn put_keys<S: FieldSink>(b: &Keys, sink: &mut S) -> Result<()>
-    ensures nesting { OnOk result (Keeps S.since fields sink.old sink.new) }
-{
-    let keys = b.entries.as_slice();
-    put_full(b.version, b.flags, NONE, sink)?;
-    sink.field("entry_count", number(keys.len() as u64))?;
-    put_each("entries", keys, sink)
-}
-
-/// What a track is for (ISO/IEC 14496-12, 8.10.4).
-pub fn put_kind<S: FieldSink>(b: &Kind, sink: &mut S) -> Result<()>
-    ensures nesting { OnOk result (Keeps S.since fields sink.old sink.new) }
-{
-    put_full(b.version, b.flags, NONE, sink)?;
-    put_string("schemeURI", b.scheme_uri.as_slice(), sink)?;
-    put_string("value", b.value.as_slice(), sink)
-}
-
-/// The header of media that need no other (ISO/IEC 14496-12, 8.4.5.2).
-pub fn put_nmhd<S: FieldSink>(b: &Nmhd, sink: &mut S) -> Result<()>
-    ensures nesting { OnOk result (Keeps S.since fields sink.old sink.new) }
-{
-    put_full(b.version, b.flags, NONE, sink)
 }
 
 /// How many entries a reference is shown as: one for each track, and one for a reference to none.

@@ -1,6 +1,6 @@
 use Rattle.std.specs.Prelude.{codes}
 use Rattle.json.specs.Token.{Token}
-use Rattle.mp4_show.proofs.Whole.{puts_two}
+use Rattle.mp4_shown_json.proofs.Puts.{puts_two}
 use Rattle.mp4_inspect.proofs.tree_json.begin_children.Goals as goal
 
 pub returns-clause-tokens : goal.returns-clause-tokens

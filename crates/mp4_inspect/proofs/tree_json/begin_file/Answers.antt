@@ -1,7 +1,7 @@
 use Rattle.std.proofs.Common.{[], ◌∷◌}
 use Rattle.std.specs.Prelude.{codes}
 use Rattle.json.specs.Token.{Token}
-use Rattle.mp4_show.proofs.Whole.{puts_more, puts_two}
+use Rattle.mp4_shown_json.proofs.Puts.{puts_more, puts_two}
 use Rattle.mp4_inspect.proofs.tree_json.begin_file.Goals as goal
 
 pub returns : goal.returns

@@ -1,5 +1,5 @@
 use Rattle.json.specs.Token.{Token}
-use Rattle.mp4_show.proofs.Whole.{puts_two}
+use Rattle.mp4_shown_json.proofs.Puts.{puts_two}
 use Rattle.mp4_inspect.proofs.tree_json.end_file.Goals as goal
 
 pub returns : goal.returns

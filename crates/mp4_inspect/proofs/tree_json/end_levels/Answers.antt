@@ -1,7 +1,7 @@
 use Rattle.std.proofs.Common.{◌≡◌, ℕ, suc, ◌-◌, arith, rules, subst}
 use Rattle.mp4_inspect.proofs.Json.{puts_level, puts_no_level}
 use Rattle.mp4_inspect.specs.Json.{levels_end}
-use Rattle.mp4_show.specs.Tokens.{Puts}
+use Rattle.mp4_shown_json.specs.Tokens.{Puts}
 use Rattle.mp4_inspect.proofs.tree_json.end_levels.Goals as goal
 
 pub loop-begun-init : goal.loop-begun-init

@@ -2,7 +2,7 @@
 use Rattle.std.proofs.Common.{◌≡◌, ◌-◌, ◌≤◌}
 use Rattle.std.specs.Prelude.{min}
 use Rattle.mp4_inspect.specs.Json.{levels_end}
-use Rattle.mp4_show.specs.Tokens.{Puts}
+use Rattle.mp4_shown_json.specs.Tokens.{Puts}
 use Rattle.mp4_inspect.proofs.tree_json.end_levels.Given as goal
 
 abbrev pub invariant-loop-begun : goal.invariant-loop-begun

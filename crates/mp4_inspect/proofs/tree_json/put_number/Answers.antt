@@ -1,6 +1,6 @@
 use Rattle.std.specs.Prelude.{decimal}
 use Rattle.json.specs.Token.{Token}
-use Rattle.mp4_show.proofs.Whole.{puts_two}
+use Rattle.mp4_shown_json.proofs.Puts.{puts_two}
 use Rattle.mp4_inspect.proofs.tree_json.put_number.Goals as goal
 
 pub returns : goal.returns

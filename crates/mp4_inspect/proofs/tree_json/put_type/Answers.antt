@@ -2,7 +2,7 @@ use Rattle.std.proofs.Common.{[], ◌∷◌}
 use Rattle.std.specs.Prelude.{codes}
 use Rattle.json.specs.Token.{Token}
 use Rattle.mp4_inspect.specs.Json.{type_token}
-use Rattle.mp4_show.proofs.Whole.{puts_then}
+use Rattle.mp4_shown_json.proofs.Puts.{puts_then}
 use Rattle.mp4_inspect.proofs.tree_json.put_type.Goals as goal
 
 pub returns : goal.returns

@@ -45,5 +45,5 @@ returns g c =
           c.loop-found.invariant.written
           (rw c.in_ok-or_memory-2.ensures.ok at c.end_levels.ensures.tokens))
           (rw c.in_ok-or_memory-3.ensures.ok at c.end_file.ensures.tokens)
-          (λ before. rw c.in_ok-or_memory-4.ensures.ok at (c.into_text.ensures.text before));
+          (λ before. rw c.in_ok-or_memory-4.ensures.ok at (c.json_text.ensures.text before));
     }

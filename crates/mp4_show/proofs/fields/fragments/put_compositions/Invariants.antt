@@ -1,5 +1,6 @@
 -- The list is begun, and its entries so far are whole.
-use Rattle.mp4_show.specs.Nesting.{entries, Keeps}
+use Rattle.mp4_show.specs.Nesting.{Keeps}
+use Rattle.mp4_shown.specs.Members.{entries}
 use Rattle.mp4_show.proofs.fields.fragments.put_compositions.Given as goal
 
 abbrev pub invariant-loop-offset : goal.invariant-loop-offset

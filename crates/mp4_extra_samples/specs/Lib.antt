@@ -1,0 +1,2 @@
+pub mod ShownSizes
+pub mod ShownGroups

@@ -1,0 +1,2 @@
+pub mod ShownAccesses
+pub mod ShownValue

@@ -1,0 +1,6 @@
+pub mod Pieces
+pub mod Plans
+pub mod NewFiles
+pub mod Holes
+pub mod Laws
+pub mod Written

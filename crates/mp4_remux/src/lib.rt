@@ -1,0 +1,23 @@
+//! Rewrites the container of a file, and keeps every sample of every track.
+#![tactic(auto)]
+
+mod fragmented;
+mod groups;
+mod keeps;
+mod kept;
+mod media;
+mod refusal;
+mod teller;
+mod track;
+mod track_samples;
+mod write;
+
+pub use fragmented::{FragmentedSamples, Fragments};
+pub use groups::{Group, Groups, fragments_of};
+pub use keeps::keeps_media;
+pub use kept::{Lost, keeps_samples};
+pub use media::{Media, Untold};
+pub use refusal::{Refusal, Stop, TrackPlace};
+pub use teller::Teller;
+pub use track_samples::TrackSamples;
+pub use write::write_checked;

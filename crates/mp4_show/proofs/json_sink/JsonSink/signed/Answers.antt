@@ -1,9 +1,0 @@
-use Rattle.std.proofs.Common.{[], ◌∷◌, refl}
-use Rattle.json.specs.Json.{Json}
-use Rattle.json.specs.Token.{Token}
-use Rattle.mp4_show.proofs.json_sink.JsonSink.signed.Goals as goal
-
-pub returns : goal.returns
-returns c = record {
-  whole = (Token.number _ ∷ [], (Json.number _, refl), (c.in_ok-i64.ensures.room.0, c.in_ok-i64.ensures.ok));
-}

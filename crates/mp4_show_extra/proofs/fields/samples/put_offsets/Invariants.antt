@@ -1,6 +1,0 @@
--- The list is begun, and its entries so far are whole.
-use Rattle.mp4_show.specs.Nesting.{entries, Keeps}
-use Rattle.mp4_show_extra.proofs.fields.samples.put_offsets.Given as goal
-
-abbrev pub invariant-loop-offset : goal.invariant-loop-offset
-invariant-loop-offset g l = Keeps g.S.FieldSink.since entries l.initial.sink l.sink
