@@ -2,17 +2,16 @@
 crates/mp4_extra/CALLING.md: the shape of a box, the fields of its struct, and the widths of its entries."""
 
 import collections
-import functools
 import glob
 import os
 import re
 
 from tests.built import TOP
+from tools.describe import apart, codes, type_of
 
 # The page with the list of the boxes, and their sources.
 PAGE = "crates/mp4_extra/CALLING.md"
 SOURCES = "crates/mp4_extra_*/src/*.rt"
-CODES = "crates/mp4_frame/src/codes.rt"
 NUMBERS = {f"U{bits}": f"{bits // 8}" for bits in (8, 16, 24, 32, 64)}
 NUMBERS.update((f"I{bits}", f"{bits // 8}, signed") for bits in (8, 16, 32, 64))
 # Shapes without arguments that are one field.
@@ -32,34 +31,6 @@ class Differs(Exception):
 def read(path):
     with open(os.path.join(TOP, path), encoding="utf-8") as file:
         return file.read()
-
-
-@functools.lru_cache(maxsize=None)
-def codes():
-    """Returns the codes of boxes by the names of their constants."""
-    numbers = re.findall(r"^pub const (\w+): u32 = (0x\w+);", read(CODES), re.M)
-    return {name: int(number, 16).to_bytes(4, "big").decode("latin-1") for name, number in numbers}
-
-
-def type_of(text):
-    """Returns a type as its name and its arguments. A tuple has an empty name."""
-    text = text.strip()
-    if text.startswith("("):
-        return "", [type_of(it) for it in apart(text[1:-1])]
-    name, _, inside = text.partition("<")
-    return name, [type_of(it) for it in apart(inside[:-1])] if inside else []
-
-
-def apart(text):
-    """Returns the pieces between the commas that aren't inside of brackets. A comma may follow the last piece."""
-    found, depth = [""], 0
-    for letter in text:
-        depth += (letter in "(<[{") - (letter in ")>]}")
-        if letter == "," and depth == 0:
-            found.append("")
-        else:
-            found[-1] += letter
-    return [it.strip() for it in found if it.strip()]
 
 
 class Declared:
