@@ -120,6 +120,7 @@ class Python(Bindings):
 
     def test_examples_of_the_module(self):
         self.python("-m", "doctest", "mp4_box_codec.py")
+        self.python("-m", "doctest", "mp4_box_fields.py")
 
     def test_examples_of_the_page(self):
         self.python("-m", "doctest", os.path.join(TOP, "docs", "PYTHON.md"))

@@ -15,6 +15,8 @@
   top.
 - Tables: the eight counted tables and `trun` take their rows by `read_table` or `read_rows`, and these two functions
   take them by one call of `ByteCursor::take_rows`.
+- Descriptions: docs/boxes.json, docs/boxes.schema.json and docs/FIELDS.md are what tools/describe.py makes from the
+  declarations of the boxes.
 - Lines: no line of a source or a document has more than 120 columns, except attributes, which `rt fmt` keeps on one
   line.
 
@@ -28,6 +30,7 @@ import unittest
 from pathlib import Path
 
 from tests.rows import rows
+from tools import describe
 
 TOP = Path(__file__).resolve().parent.parent.parent
 WORDS = re.compile(r"\b(as of|the same|the record of|the name of|a clause for each)\b|^== of")
@@ -339,6 +342,10 @@ class Documents(unittest.TestCase):
     def test_widths(self):
         compare_widths()
         self.agree()
+
+    def test_descriptions(self):
+        for path, text in describe.files().items():
+            self.assertEqual(read(TOP / path), text, f"{path}: run tools/describe.py --write")
 
     def test_links(self):
         for file in tree("**/*.md"):

@@ -1,0 +1,591 @@
+"""The fields of boxes as typed dictionaries. tools/describe.py makes this module from the declarations of the boxes: do
+not edit it.
+
+A function for each type of boxes returns the fields of the box at the front of the bytes, as `mp4_box_codec.fields`
+does. A box of another type is a ValueError.
+
+>>> import mp4_box_fields
+>>> mp4_box_fields.pasp(bytes.fromhex("00000010 70617370 00000004 00000003"))["vSpacing"]
+3
+"""
+
+from typing import Any, List, TypedDict, Union
+
+import mp4_box_codec
+
+
+def _fields(code: str, data: Any) -> Any:
+    """Returns the fields of a box with this code."""
+    with memoryview(data) as view:
+        found = bytes(view.cast("B")[4:8]).decode("latin-1")
+    if found != code:
+        raise ValueError(f"this box is a {found!r}, not a {code!r}")
+    return mp4_box_codec.fields(data)
+
+
+class Btrt(TypedDict):
+    """The fields of `btrt` (ISO/IEC 14496-12, 8.5.2.2)."""
+
+    bufferSizeDB: int
+    maxBitrate: int
+    avgBitrate: int
+
+
+def btrt(data: Any) -> Btrt:
+    """Returns the fields of `btrt`: the bit rates of the media of a sample entry (ISO/IEC 14496-12, 8.5.2.2)."""
+    return _fields("btrt", data)
+
+
+class Clap(TypedDict):
+    """The fields of `clap` (ISO/IEC 14496-12, 12.1.4)."""
+
+    cleanApertureWidthN: int
+    cleanApertureWidthD: int
+    cleanApertureHeightN: int
+    cleanApertureHeightD: int
+    horizOffN: int
+    horizOffD: int
+    vertOffN: int
+    vertOffD: int
+
+
+def clap(data: Any) -> Clap:
+    """Returns the fields of `clap`: the part of a video's pictures to show (ISO/IEC 14496-12, 12.1.4)."""
+    return _fields("clap", data)
+
+
+class Clli(TypedDict):
+    """The fields of `clli` (ISO/IEC 14496-12, 12.1.6)."""
+
+    max_content_light_level: int
+    max_pic_average_light_level: int
+
+
+def clli(data: Any) -> Clli:
+    """Returns the fields of `clli`: the brightness of a video's pictures (ISO/IEC 14496-12, 12.1.6)."""
+    return _fields("clli", data)
+
+
+class _Colr(TypedDict):
+    colour_type: str
+
+
+class Colr(_Colr, total=False):
+    """The fields of `colr` (ISO/IEC 14496-12, 12.1.5)."""
+
+    colour_primaries: int
+    colour_primaries_name: str
+    transfer_characteristics: int
+    transfer_characteristics_name: str
+    matrix_coefficients: int
+    matrix_coefficients_name: str
+    full_range_flag: int
+    reserved: int
+    ICC_profile: str
+    data_bytes: str
+
+
+def colr(data: Any) -> Colr:
+    """Returns the fields of `colr`: the colours of a video (ISO/IEC 14496-12, 12.1.5)."""
+    return _fields("colr", data)
+
+
+class Cslg(TypedDict):
+    """The fields of `cslg` (ISO/IEC 14496-12, 8.6.1.4)."""
+
+    version: int
+    flags: int
+    compositionToDTSShift: int
+    leastDecodeToDisplayDelta: int
+    greatestDecodeToDisplayDelta: int
+    compositionStartTime: int
+    compositionEndTime: int
+
+
+def cslg(data: Any) -> Cslg:
+    """Returns the fields of `cslg`: the relation of a track's composition times to its decoding times (ISO/IEC
+    14496-12, 8.6.1.4)."""
+    return _fields("cslg", data)
+
+
+class _Dac3(TypedDict):
+    fscod: int
+    bsid: int
+    bsmod: int
+    acmod: int
+    lfeon: int
+    bit_rate_code: int
+
+
+class Dac3(_Dac3, total=False):
+    """The fields of `dac3` (ETSI TS 102 366, F.4)."""
+
+    reserved: int
+
+
+def dac3(data: Any) -> Dac3:
+    """Returns the fields of `dac3`: the configuration of an AC-3 decoder (ETSI TS 102 366, F.4)."""
+    return _fields("dac3", data)
+
+
+class _Elng(TypedDict):
+    version: int
+    flags: int
+    extended_language: str
+
+
+class Elng(_Elng, total=False):
+    """The fields of `elng` (ISO/IEC 14496-12, 8.4.6)."""
+
+    extended_language_hex: str
+
+
+def elng(data: Any) -> Elng:
+    """Returns the fields of `elng`: the language of a track's media (ISO/IEC 14496-12, 8.4.6)."""
+    return _fields("elng", data)
+
+
+class Frma(TypedDict):
+    """The fields of `frma` (ISO/IEC 14496-12, 8.12.2)."""
+
+    data_format: str
+
+
+def frma(data: Any) -> Frma:
+    """Returns the fields of `frma`: the format of media before a transformation such as encryption (ISO/IEC 14496-12,
+    8.12.2)."""
+    return _fields("frma", data)
+
+
+class _HvcCArrays(TypedDict):
+    array_completeness: int
+    NAL_unit_type: int
+    nalUnit: List[str]
+
+
+class HvcCArrays(_HvcCArrays, total=False):
+    """An entry of `arrays`."""
+
+    reserved: int
+    NAL_unit_type_name: str
+
+
+class _HvcC(TypedDict):
+    configurationVersion: int
+    general_profile_space: int
+    general_tier_flag: int
+    general_profile_idc: int
+    general_profile_compatibility_flags: int
+    general_constraint_indicator_flags: str
+    general_level_idc: int
+    min_spatial_segmentation_idc: int
+    parallelismType: int
+    chroma_format_idc: int
+    bit_depth_luma_minus8: int
+    bit_depth_chroma_minus8: int
+    avgFrameRate: int
+    constantFrameRate: int
+    numTemporalLayers: int
+    temporalIdNested: int
+    lengthSizeMinusOne: int
+    arrays: List[HvcCArrays]
+
+
+class HvcC(_HvcC, total=False):
+    """The fields of `hvcC` (ISO/IEC 14496-15, 8.3.3.1)."""
+
+    reserved_before_segmentation: int
+    reserved_before_parallelism: int
+    reserved_before_chroma_format: int
+    reserved_before_luma: int
+    reserved_before_chroma: int
+
+
+def hvcC(data: Any) -> HvcC:
+    """Returns the fields of `hvcC`: the configuration of an HEVC decoder (ISO/IEC 14496-15, 8.3.3.1)."""
+    return _fields("hvcC", data)
+
+
+class _KeysEntries(TypedDict):
+    Key_namespace: str
+    Key_value: str
+
+
+class KeysEntries(_KeysEntries, total=False):
+    """An entry of `entries`."""
+
+    Key_value_hex: str
+
+
+class Keys(TypedDict):
+    """The fields of `keys` (QuickTime File Format, "Metadata item keys atom")."""
+
+    version: int
+    flags: int
+    entry_count: int
+    entries: List[KeysEntries]
+
+
+def keys(data: Any) -> Keys:
+    """Returns the fields of `keys`: the keys of the metadata items in an `ilst` (QuickTime File Format, "Metadata item
+    keys atom")."""
+    return _fields("keys", data)
+
+
+class _Kind(TypedDict):
+    version: int
+    flags: int
+    schemeURI: str
+    value: str
+
+
+class Kind(_Kind, total=False):
+    """The fields of `kind` (ISO/IEC 14496-12, 8.10.4)."""
+
+    schemeURI_hex: str
+    value_hex: str
+
+
+def kind(data: Any) -> Kind:
+    """Returns the fields of `kind`: the role of a track (ISO/IEC 14496-12, 8.10.4)."""
+    return _fields("kind", data)
+
+
+class Mdcv(TypedDict):
+    """The fields of `mdcv` (ISO/IEC 14496-12, 12.1.7)."""
+
+    display_primaries_x_0: int
+    display_primaries_y_0: int
+    display_primaries_x_1: int
+    display_primaries_y_1: int
+    display_primaries_x_2: int
+    display_primaries_y_2: int
+    white_point_x: int
+    white_point_y: int
+    max_display_mastering_luminance: int
+    min_display_mastering_luminance: int
+
+
+def mdcv(data: Any) -> Mdcv:
+    """Returns the fields of `mdcv`: the display on which a video was mastered (ISO/IEC 14496-12, 12.1.7)."""
+    return _fields("mdcv", data)
+
+
+class Mfro(TypedDict):
+    """The fields of `mfro` (ISO/IEC 14496-12, 8.8.11)."""
+
+    version: int
+    flags: int
+    parent_size: int
+
+
+def mfro(data: Any) -> Mfro:
+    """Returns the fields of `mfro`: the size of the enclosing `mfra` (ISO/IEC 14496-12, 8.8.11)."""
+    return _fields("mfro", data)
+
+
+class Nmhd(TypedDict):
+    """The fields of `nmhd` (ISO/IEC 14496-12, 8.4.5.2)."""
+
+    version: int
+    flags: int
+
+
+def nmhd(data: Any) -> Nmhd:
+    """Returns the fields of `nmhd`: the media header of tracks whose type of media defines no other (ISO/IEC 14496-12,
+    8.4.5.2)."""
+    return _fields("nmhd", data)
+
+
+class Pasp(TypedDict):
+    """The fields of `pasp` (ISO/IEC 14496-12, 12.1.4)."""
+
+    hSpacing: int
+    vSpacing: int
+
+
+def pasp(data: Any) -> Pasp:
+    """Returns the fields of `pasp`: the aspect ratio of a video's pixels (ISO/IEC 14496-12, 12.1.4)."""
+    return _fields("pasp", data)
+
+
+class Prft(TypedDict):
+    """The fields of `prft` (ISO/IEC 14496-12, 8.16.5)."""
+
+    version: int
+    flags: int
+    reference_track_ID: int
+    ntp_timestamp: int
+    media_time: int
+
+
+def prft(data: Any) -> Prft:
+    """Returns the fields of `prft`: the time at which a producer made a part of the media (ISO/IEC 14496-12,
+    8.16.5)."""
+    return _fields("prft", data)
+
+
+class _Pssh(TypedDict):
+    version: int
+    flags: int
+    SystemID: str
+    Data: str
+
+
+class Pssh(_Pssh, total=False):
+    """The fields of `pssh` (ISO/IEC 23001-7, 8.1)."""
+
+    KID: List[str]
+
+
+def pssh(data: Any) -> Pssh:
+    """Returns the fields of `pssh`: the data that a content protection system needs (ISO/IEC 23001-7, 8.1)."""
+    return _fields("pssh", data)
+
+
+class _Saio(TypedDict):
+    version: int
+    flags: int
+    offset: List[int]
+
+
+class Saio(_Saio, total=False):
+    """The fields of `saio` (ISO/IEC 14496-12, 8.7.9)."""
+
+    aux_info_type: str
+    aux_info_type_parameter: int
+
+
+def saio(data: Any) -> Saio:
+    """Returns the fields of `saio`: the offsets of the samples' auxiliary information (ISO/IEC 14496-12, 8.7.9)."""
+    return _fields("saio", data)
+
+
+class _Saiz(TypedDict):
+    version: int
+    flags: int
+    default_sample_info_size: int
+    sample_count: int
+
+
+class Saiz(_Saiz, total=False):
+    """The fields of `saiz` (ISO/IEC 14496-12, 8.7.8)."""
+
+    aux_info_type: str
+    aux_info_type_parameter: int
+    sample_info_size: List[int]
+
+
+def saiz(data: Any) -> Saiz:
+    """Returns the fields of `saiz`: the sizes of the samples' auxiliary information (ISO/IEC 14496-12, 8.7.8)."""
+    return _fields("saiz", data)
+
+
+class SbgpEntries(TypedDict):
+    """An entry of `entries`."""
+
+    sample_count: int
+    group_description_index: int
+
+
+class _Sbgp(TypedDict):
+    version: int
+    flags: int
+    grouping_type: str
+    entries: List[SbgpEntries]
+
+
+class Sbgp(_Sbgp, total=False):
+    """The fields of `sbgp` (ISO/IEC 14496-12, 8.9.2)."""
+
+    grouping_type_parameter: int
+
+
+def sbgp(data: Any) -> Sbgp:
+    """Returns the fields of `sbgp`: the assignment of samples to groups, for one kind of grouping (ISO/IEC 14496-12,
+    8.9.2)."""
+    return _fields("sbgp", data)
+
+
+class _Schm(TypedDict):
+    version: int
+    flags: int
+    scheme_type: str
+    scheme_version: int
+
+
+class Schm(_Schm, total=False):
+    """The fields of `schm` (ISO/IEC 14496-12, 8.12.5)."""
+
+    scheme_uri: str
+    scheme_uri_hex: str
+
+
+def schm(data: Any) -> Schm:
+    """Returns the fields of `schm`: the scheme that protects the media (ISO/IEC 14496-12, 8.12.5)."""
+    return _fields("schm", data)
+
+
+class SdtpEntries(TypedDict):
+    """An entry of `entries`."""
+
+    is_leading: int
+    sample_depends_on: int
+    sample_is_depended_on: int
+    sample_has_redundancy: int
+
+
+class Sdtp(TypedDict):
+    """The fields of `sdtp` (ISO/IEC 14496-12, 8.6.4.3)."""
+
+    version: int
+    flags: int
+    entries: List[SdtpEntries]
+
+
+def sdtp(data: Any) -> Sdtp:
+    """Returns the fields of `sdtp`: the dependencies between the samples of a track (ISO/IEC 14496-12, 8.6.4.3)."""
+    return _fields("sdtp", data)
+
+
+class Senc(TypedDict):
+    """The fields of `senc` (ISO/IEC 23001-7, 7.2.1)."""
+
+    version: int
+    flags: int
+    sample_count: int
+    data_bytes: str
+
+
+def senc(data: Any) -> Senc:
+    """Returns the fields of `senc`: the encryption parameters of each sample (ISO/IEC 23001-7, 7.2.1)."""
+    return _fields("senc", data)
+
+
+class SidxReferences(TypedDict):
+    """An entry of `references`."""
+
+    reference_type: int
+    referenced_size: int
+    subsegment_duration: int
+    starts_with_SAP: int
+    SAP_type: int
+    SAP_delta_time: int
+
+
+class Sidx(TypedDict):
+    """The fields of `sidx` (ISO/IEC 14496-12, 8.16.3)."""
+
+    version: int
+    flags: int
+    reference_ID: int
+    timescale: int
+    earliest_presentation_time: int
+    first_offset: int
+    references: List[SidxReferences]
+
+
+def sidx(data: Any) -> Sidx:
+    """Returns the fields of `sidx`: the sizes and durations of the parts of a segment (ISO/IEC 14496-12, 8.16.3)."""
+    return _fields("sidx", data)
+
+
+class _Stpp(TypedDict):
+    data_reference_index: int
+    namespace: str
+    schema_location: str
+    auxiliary_mime_types: str
+
+
+class Stpp(_Stpp, total=False):
+    """The fields of `stpp` (ISO/IEC 14496-12, 12.6.3)."""
+
+    namespace_hex: str
+    schema_location_hex: str
+    auxiliary_mime_types_hex: str
+    data_bytes: str
+
+
+def stpp(data: Any) -> Stpp:
+    """Returns the fields of `stpp`: the sample entry of subtitles in XML (ISO/IEC 14496-12, 12.6.3)."""
+    return _fields("stpp", data)
+
+
+class Styp(TypedDict):
+    """The fields of `styp` (ISO/IEC 14496-12, 8.16.2)."""
+
+    major_brand: str
+    minor_version: int
+    compatible_brands: List[str]
+
+
+def styp(data: Any) -> Styp:
+    """Returns the fields of `styp`: the specifications that a segment conforms to (ISO/IEC 14496-12, 8.16.2)."""
+    return _fields("styp", data)
+
+
+class SubsEntriesSubsamples(TypedDict):
+    """An entry of `subsamples`."""
+
+    subsample_size: int
+    subsample_priority: int
+    discardable: int
+    codec_specific_parameters: int
+
+
+class SubsEntries(TypedDict):
+    """An entry of `entries`."""
+
+    sample_delta: int
+    subsamples: List[SubsEntriesSubsamples]
+
+
+class Subs(TypedDict):
+    """The fields of `subs` (ISO/IEC 14496-12, 8.7.7)."""
+
+    version: int
+    flags: int
+    entry_count: int
+    entries: List[SubsEntries]
+
+
+def subs(data: Any) -> Subs:
+    """Returns the fields of `subs`: the parts of samples (ISO/IEC 14496-12, 8.7.7)."""
+    return _fields("subs", data)
+
+
+class _Tenc(TypedDict):
+    version: int
+    flags: int
+    default_isProtected: int
+    default_Per_Sample_IV_Size: int
+    default_KID: str
+
+
+class Tenc(_Tenc, total=False):
+    """The fields of `tenc` (ISO/IEC 23001-7, 8.2)."""
+
+    default_crypt_byte_block: int
+    default_skip_byte_block: int
+    default_constant_IV_size: int
+    default_constant_IV: str
+
+
+def tenc(data: Any) -> Tenc:
+    """Returns the fields of `tenc`: the encryption parameters of a track's samples (ISO/IEC 23001-7, 8.2)."""
+    return _fields("tenc", data)
+
+
+class _Wvtt(TypedDict):
+    data_reference_index: int
+
+
+class Wvtt(_Wvtt, total=False):
+    """The fields of `wvtt` (ISO/IEC 14496-30, 7.5)."""
+
+    data_bytes: str
+
+
+def wvtt(data: Any) -> Wvtt:
+    """Returns the fields of `wvtt`: the sample entry of WebVTT (ISO/IEC 14496-30, 7.5)."""
+    return _fields("wvtt", data)
