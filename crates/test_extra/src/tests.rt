@@ -4,6 +4,7 @@
 
 mod fields;
 mod fields_auxiliary;
+mod fields_colours;
 mod fields_decoded;
 mod fields_groups;
 mod fields_protection;
