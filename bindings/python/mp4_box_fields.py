@@ -23,6 +23,36 @@ def _fields(code: str, data: Any) -> Any:
     return mp4_box_codec.fields(data)
 
 
+class _Av1C(TypedDict):
+    marker: int
+    version: int
+    seq_profile: int
+    seq_level_idx_0: int
+    seq_tier_0: int
+    high_bitdepth: int
+    twelve_bit: int
+    monochrome: int
+    chroma_subsampling_x: int
+    chroma_subsampling_y: int
+    chroma_sample_position: int
+    initial_presentation_delay_present: int
+    configOBUs: str
+
+
+class Av1C(_Av1C, total=False):
+    """The fields of `av1C` (AV1 Codec ISO Media File Format Binding, 2.3)."""
+
+    reserved: int
+    initial_presentation_delay_minus_one: int
+    reserved_without_delay: int
+
+
+def av1C(data: Any) -> Av1C:
+    """Returns the fields of `av1C`: the configuration of an AV1 decoder (AV1 Codec ISO Media File Format Binding,
+    2.3)."""
+    return _fields("av1C", data)
+
+
 class Btrt(TypedDict):
     """The fields of `btrt` (ISO/IEC 14496-12, 8.5.2.2)."""
 
@@ -126,6 +156,125 @@ class Dac3(_Dac3, total=False):
 def dac3(data: Any) -> Dac3:
     """Returns the fields of `dac3`: the configuration of an AC-3 decoder (ETSI TS 102 366, F.4)."""
     return _fields("dac3", data)
+
+
+class _Data(TypedDict):
+    data_type: int
+
+
+class Data(_Data, total=False):
+    """The fields of `data` (QuickTime File Format, "Value atom")."""
+
+    type_set: int
+    data_type_name: str
+    country: Union[str, int]
+    language: Union[str, int]
+    text: str
+    text_hex: str
+    number: int
+    number_hex: str
+    data_bytes: str
+
+
+def data(data: Any) -> Data:
+    """Returns the fields of `data`: the value of a metadata item, of any type (QuickTime File Format, "Value atom")."""
+    return _fields("data", data)
+
+
+class _Dec3Substreams(TypedDict):
+    fscod: int
+    bsid: int
+    asvc: int
+    bsmod: int
+    acmod: int
+    lfeon: int
+    num_dep_sub: int
+
+
+class Dec3Substreams(_Dec3Substreams, total=False):
+    """An entry of `substreams`."""
+
+    reserved_before_asvc: int
+    reserved_before_num_dep_sub: int
+    reserved_after_num_dep_sub: int
+    chan_loc: int
+
+
+class _Dec3(TypedDict):
+    data_rate: int
+    num_ind_sub: int
+
+
+class Dec3(_Dec3, total=False):
+    """The fields of `dec3` (ETSI TS 102 366, F.6)."""
+
+    substreams: List[Dec3Substreams]
+    data_bytes: str
+
+
+def dec3(data: Any) -> Dec3:
+    """Returns the fields of `dec3`: the configuration of an Enhanced AC-3 decoder (ETSI TS 102 366, F.6)."""
+    return _fields("dec3", data)
+
+
+class _DfLaMetadataBlocks(TypedDict):
+    LastMetadataBlockFlag: int
+    BlockType: int
+    Length: int
+
+
+class DfLaMetadataBlocks(_DfLaMetadataBlocks, total=False):
+    """An entry of `metadata_blocks`."""
+
+    BlockType_name: str
+    minimum_block_size: int
+    maximum_block_size: int
+    minimum_frame_size: int
+    maximum_frame_size: int
+    sample_rate: int
+    channels: int
+    bits_per_sample: int
+    total_samples: int
+    MD5: str
+    BlockData: str
+
+
+class DfLa(TypedDict):
+    """The fields of `dfLa` (Encapsulation of FLAC in ISO Base Media File Format, 3.3.2)."""
+
+    version: int
+    flags: int
+    metadata_blocks: List[DfLaMetadataBlocks]
+
+
+def dfLa(data: Any) -> DfLa:
+    """Returns the fields of `dfLa`: the configuration of a FLAC decoder (Encapsulation of FLAC in ISO Base Media File
+    Format, 3.3.2)."""
+    return _fields("dfLa", data)
+
+
+class _DOps(TypedDict):
+    Version: int
+    OutputChannelCount: int
+    PreSkip: int
+    InputSampleRate: int
+    OutputGain: float
+    ChannelMappingFamily: int
+
+
+class DOps(_DOps, total=False):
+    """The fields of `dOps` (Encapsulation of Opus in ISO Base Media File Format, 4.3.2)."""
+
+    StreamCount: int
+    CoupledCount: int
+    ChannelMapping: str
+    data_bytes: str
+
+
+def dOps(data: Any) -> DOps:
+    """Returns the fields of `dOps`: the configuration of an Opus decoder (Encapsulation of Opus in ISO Base Media File
+    Format, 4.3.2)."""
+    return _fields("dOps", data)
 
 
 class _Elng(TypedDict):
@@ -462,6 +611,46 @@ def senc(data: Any) -> Senc:
     return _fields("senc", data)
 
 
+class SgpdEntries(TypedDict, total=False):
+    """An entry of `entries`."""
+
+    description_length: int
+    roll_distance: int
+    num_leading_samples_known: int
+    num_leading_samples: int
+    level_independently_decodable: int
+    reserved: int
+    crypt_byte_block: int
+    skip_byte_block: int
+    isProtected: int
+    Per_Sample_IV_Size: int
+    KID: str
+    constant_IV_size: int
+    constant_IV: str
+    data_bytes: str
+
+
+class _Sgpd(TypedDict):
+    version: int
+    flags: int
+    grouping_type: str
+    entry_count: int
+
+
+class Sgpd(_Sgpd, total=False):
+    """The fields of `sgpd` (ISO/IEC 14496-12, 8.9.3)."""
+
+    default_length: int
+    default_group_description_index: int
+    entries: List[SgpdEntries]
+    data_bytes: str
+
+
+def sgpd(data: Any) -> Sgpd:
+    """Returns the fields of `sgpd`: the descriptions of sample groups of one kind (ISO/IEC 14496-12, 8.9.3)."""
+    return _fields("sgpd", data)
+
+
 class SidxReferences(TypedDict):
     """An entry of `references`."""
 
@@ -524,6 +713,27 @@ def styp(data: Any) -> Styp:
     return _fields("styp", data)
 
 
+class _Stz2(TypedDict):
+    version: int
+    flags: int
+    field_size: int
+    sample_count: int
+
+
+class Stz2(_Stz2, total=False):
+    """The fields of `stz2` (ISO/IEC 14496-12, 8.7.3.3)."""
+
+    entry_size: List[int]
+    padding: int
+    data_bytes: str
+    data_bytes: str
+
+
+def stz2(data: Any) -> Stz2:
+    """Returns the fields of `stz2`: the sizes of samples in 4, 8 or 16 bits each (ISO/IEC 14496-12, 8.7.3.3)."""
+    return _fields("stz2", data)
+
+
 class SubsEntriesSubsamples(TypedDict):
     """An entry of `subsamples`."""
 
@@ -574,6 +784,58 @@ class Tenc(_Tenc, total=False):
 def tenc(data: Any) -> Tenc:
     """Returns the fields of `tenc`: the encryption parameters of a track's samples (ISO/IEC 23001-7, 8.2)."""
     return _fields("tenc", data)
+
+
+class TfraEntries(TypedDict):
+    """An entry of `entries`."""
+
+    time: int
+    moof_offset: int
+    traf_number: int
+    trun_number: int
+    sample_number: int
+
+
+class _Tfra(TypedDict):
+    version: int
+    flags: int
+    track_ID: int
+    length_size_of_traf_num: int
+    length_size_of_trun_num: int
+    length_size_of_sample_num: int
+    number_of_entry: int
+
+
+class Tfra(_Tfra, total=False):
+    """The fields of `tfra` (ISO/IEC 14496-12, 8.8.10)."""
+
+    reserved: int
+    entries: List[TfraEntries]
+    data_bytes: str
+
+
+def tfra(data: Any) -> Tfra:
+    """Returns the fields of `tfra`: the positions of a track's random access samples in fragments (ISO/IEC 14496-12,
+    8.8.10)."""
+    return _fields("tfra", data)
+
+
+class TrefReferences(TypedDict):
+    """An entry of `references`."""
+
+    reference_type: str
+    track_IDs: List[int]
+
+
+class Tref(TypedDict):
+    """The fields of `tref` (ISO/IEC 14496-12, 8.3.3)."""
+
+    references: List[TrefReferences]
+
+
+def tref(data: Any) -> Tref:
+    """Returns the fields of `tref`: the references of a track to other tracks (ISO/IEC 14496-12, 8.3.3)."""
+    return _fields("tref", data)
 
 
 class _Wvtt(TypedDict):
