@@ -146,11 +146,75 @@ fn systems_are_shown(alloc: Global) -> Made<[bool; 3]> {
     ])
 }
 
+/// The UUID of Widevine, those of PlayReady, FairPlay, the common system and ClearKey, and one in which the last bit of
+/// Widevine's differs.
+const SYSTEMS: [[u8; 16]; 6] = [
+    *b"\xed\xef\x8b\xa9\x79\xd6\x4a\xce\xa3\xc8\x27\xdc\xd5\x1d\x21\xed",
+    *b"\x9a\x04\xf0\x79\x98\x40\x42\x86\xab\x92\xe6\x5b\xe0\x88\x5f\x95",
+    *b"\x94\xce\x86\xfb\x07\xff\x4f\x43\xad\xb8\x93\xd2\xfa\x96\x8c\xa2",
+    *b"\x10\x77\xef\xec\xc0\xb2\x4d\x02\xac\xe3\x3c\x1e\x52\xe2\xfb\x4b",
+    *b"\xe2\x71\x9d\x58\xa9\x85\xb3\xc9\x78\x1a\xb0\x30\xaf\x78\xd3\x0e",
+    *b"\xed\xef\x8b\xa9\x79\xd6\x4a\xce\xa3\xc8\x27\xdc\xd5\x1d\x21\xec",
+];
+
+/// Returns whether a `pssh` of a system is shown as `text`.
+fn is_shown_as(alloc: Global, system_id: [u8; 16], text: &str) -> Made<bool> {
+    let pssh = Pssh {
+        system_id,
+        ..pssh(alloc, 0, None)?
+    };
+    Ok(is_shown(alloc, &pssh, text))
+}
+
+/// Returns whether known systems are shown by name, and another one without.
+fn names_are_shown(alloc: Global) -> Made<[bool; 6]> {
+    Ok([
+        is_shown_as(
+            alloc,
+            SYSTEMS[0],
+            "\"version\":0,\"flags\":66051,\"SystemID\":\"edef8ba979d64acea3c827dcd51d21ed\",\
+            \"SystemID_name\":\"Widevine\",\"Data\":\"b1b2b3\"",
+        )?,
+        is_shown_as(
+            alloc,
+            SYSTEMS[1],
+            "\"version\":0,\"flags\":66051,\"SystemID\":\"9a04f07998404286ab92e65be0885f95\",\
+            \"SystemID_name\":\"PlayReady\",\"Data\":\"b1b2b3\"",
+        )?,
+        is_shown_as(
+            alloc,
+            SYSTEMS[2],
+            "\"version\":0,\"flags\":66051,\"SystemID\":\"94ce86fb07ff4f43adb893d2fa968ca2\",\
+            \"SystemID_name\":\"FairPlay\",\"Data\":\"b1b2b3\"",
+        )?,
+        is_shown_as(
+            alloc,
+            SYSTEMS[3],
+            "\"version\":0,\"flags\":66051,\"SystemID\":\"1077efecc0b24d02ace33c1e52e2fb4b\",\
+            \"SystemID_name\":\"Common\",\"Data\":\"b1b2b3\"",
+        )?,
+        is_shown_as(
+            alloc,
+            SYSTEMS[4],
+            "\"version\":0,\"flags\":66051,\"SystemID\":\"e2719d58a985b3c9781ab030af78d30e\",\
+            \"SystemID_name\":\"ClearKey\",\"Data\":\"b1b2b3\"",
+        )?,
+        is_shown_as(
+            alloc,
+            SYSTEMS[5],
+            "\"version\":0,\"flags\":66051,\"SystemID\":\"edef8ba979d64acea3c827dcd51d21ec\",\
+            \"Data\":\"b1b2b3\"",
+        )?,
+    ])
+}
+
 /// ISO/IEC 23001-7, 8.1: `pssh`.
 #[test]
 fn systems(rt: HostRuntime) -> Result<(), Fail> {
     let shown = systems_are_shown(rt.alloc())?;
+    let names = names_are_shown(rt.alloc())?;
     assert_eq!(rt; shown, [true; 3]);
+    assert_eq!(rt; names, [true; 6]);
     Ok(())
 }
 
