@@ -11,21 +11,152 @@ ghost use Rattle.mp4_extra.specs.ExtraBoxLaws.{by_code, members, named};
 ghost use Rattle.mp4_extra.specs.declared.extra_type.ExtraType.TheVariants as types;
 ghost use Rattle.mp4_extra.specs.declared.extra_box.ExtraBox.TheVariants as boxes;
 
+use crate::Alac;
+use crate::AlacBox;
+use crate::Auxc;
+use crate::AuxcBox;
+use crate::Av1c;
+use crate::Av1cBox;
+use crate::Btrt;
+use crate::BtrtBox;
+use crate::Chan;
+use crate::ChanBox;
+use crate::Chnl;
+use crate::ChnlBox;
+use crate::Clap;
+use crate::ClapBox;
+use crate::Clli;
+use crate::ClliBox;
+use crate::Colr;
+use crate::ColrBox;
+use crate::Cslg;
+use crate::CslgBox;
+use crate::Dac3;
+use crate::Dac3Box;
+use crate::Data;
+use crate::DataBox;
+use crate::Dec3;
+use crate::Dec3Box;
+use crate::Dfla;
+use crate::DflaBox;
+use crate::Dops;
+use crate::DopsBox;
+use crate::Dvcc;
+use crate::DvccBox;
+use crate::Dvvc;
+use crate::DvvcBox;
+use crate::Elng;
+use crate::ElngBox;
+use crate::Enda;
+use crate::EndaBox;
+use crate::Fiel;
+use crate::FielBox;
+use crate::Frma;
+use crate::FrmaBox;
+use crate::Gmin;
+use crate::GminBox;
+use crate::Hmhd;
+use crate::HmhdBox;
+use crate::Hvcc;
+use crate::HvccBox;
+use crate::Iloc;
+use crate::IlocBox;
+use crate::Imir;
+use crate::ImirBox;
+use crate::Infe;
+use crate::InfeBox;
+use crate::Iods;
+use crate::IodsBox;
+use crate::Ipma;
+use crate::IpmaBox;
+use crate::Irot;
+use crate::IrotBox;
+use crate::Ispe;
+use crate::IspeBox;
+use crate::Keys;
+use crate::KeysBox;
+use crate::Kind;
+use crate::KindBox;
+use crate::Leva;
+use crate::LevaBox;
+use crate::Mdcv;
+use crate::MdcvBox;
+use crate::Mean;
+use crate::MeanBox;
+use crate::Mfro;
+use crate::MfroBox;
+use crate::Name;
+use crate::NameBox;
+use crate::Nmhd;
+use crate::NmhdBox;
+use crate::Pasp;
+use crate::PaspBox;
+use crate::Pitm;
+use crate::PitmBox;
+use crate::Pixi;
+use crate::PixiBox;
+use crate::Prft;
+use crate::PrftBox;
+use crate::Pssh;
+use crate::PsshBox;
+use crate::Saio;
+use crate::SaioBox;
+use crate::Saiz;
+use crate::SaizBox;
+use crate::Sbgp;
+use crate::SbgpBox;
+use crate::Schm;
+use crate::SchmBox;
+use crate::Sdtp;
+use crate::SdtpBox;
+use crate::Senc;
+use crate::SencBox;
+use crate::Sgpd;
+use crate::SgpdBox;
+use crate::Sidx;
+use crate::SidxBox;
+use crate::Srat;
+use crate::SratBox;
+use crate::Ssix;
+use crate::SsixBox;
+use crate::Sthd;
+use crate::SthdBox;
+use crate::Stpp;
+use crate::StppBox;
+use crate::Styp;
+use crate::StypBox;
+use crate::Stz2;
+use crate::Stz2Box;
+use crate::Subs;
+use crate::SubsBox;
+use crate::Tcmi;
+use crate::TcmiBox;
+use crate::Tenc;
+use crate::TencBox;
+use crate::Text;
+use crate::TextBox;
+use crate::Tfra;
+use crate::TfraBox;
+use crate::Tref;
+use crate::TrefBox;
+use crate::Vvcc;
+use crate::VvccBox;
+use crate::Wvtt;
+use crate::WvttBox;
 use crate::extra_type::ExtraType;
-use crate::{
-    Av1c, Av1cBox, Btrt, BtrtBox, Clap, ClapBox, Clli, ClliBox, Colr, ColrBox, Cslg, CslgBox, Dac3,
-    Dac3Box, Data, DataBox, Dec3, Dec3Box, Dfla, DflaBox, Dops, DopsBox, Elng, ElngBox, Frma,
-    FrmaBox, Hvcc, HvccBox, Keys, KeysBox, Kind, KindBox, Mdcv, MdcvBox, Mfro, MfroBox, Nmhd,
-    NmhdBox, Pasp, PaspBox, Prft, PrftBox, Pssh, PsshBox, Saio, SaioBox, Saiz, SaizBox, Sbgp,
-    SbgpBox, Schm, SchmBox, Sdtp, SdtpBox, Senc, SencBox, Sgpd, SgpdBox, Sidx, SidxBox, Stpp,
-    StppBox, Styp, StypBox, Stz2, Stz2Box, Subs, SubsBox, Tenc, TencBox, Tfra, TfraBox, Tref,
-    TrefBox, Wvtt, WvttBox,
-};
 use mp4_compose::CodedEnum;
-use mp4_declared::{Declared, DeclaredBox, Shape};
-use mp4_frame::{
-    BoxEnum, BoxType, BoxVisitor, ByteCursor, Holds, Result, TryClone, clone_as, read_as,
-};
+use mp4_declared::Declared;
+use mp4_declared::DeclaredBox;
+use mp4_declared::Shape;
+use mp4_frame::BoxEnum;
+use mp4_frame::BoxType;
+use mp4_frame::BoxVisitor;
+use mp4_frame::ByteCursor;
+use mp4_frame::Holds;
+use mp4_frame::Result;
+use mp4_frame::TryClone;
+use mp4_frame::clone_as;
+use mp4_frame::read_as;
 use std::alloc::Global;
 use std::fmt;
 
@@ -34,10 +165,13 @@ macro_rules! of_boxes {
     ($go:ident, $($rest:tt)*) => {
         $go! {
             [
-                Av1cBox BtrtBox ClapBox ClliBox ColrBox CslgBox Dac3Box DataBox Dec3Box DflaBox
-                DopsBox ElngBox FrmaBox HvccBox KeysBox KindBox MdcvBox MfroBox NmhdBox PaspBox
-                PrftBox PsshBox SaioBox SaizBox SbgpBox SchmBox SdtpBox SencBox SgpdBox SidxBox
-                StppBox StypBox Stz2Box SubsBox TencBox TfraBox TrefBox WvttBox
+                AlacBox AuxcBox Av1cBox BtrtBox ChanBox ChnlBox ClapBox ClliBox ColrBox CslgBox
+                Dac3Box DataBox Dec3Box DflaBox DopsBox DvccBox DvvcBox ElngBox EndaBox FielBox
+                FrmaBox GminBox HmhdBox HvccBox IlocBox ImirBox InfeBox IodsBox IpmaBox IrotBox
+                IspeBox KeysBox KindBox LevaBox MdcvBox MeanBox MfroBox NameBox NmhdBox PaspBox
+                PitmBox PixiBox PrftBox PsshBox SaioBox SaizBox SbgpBox SchmBox SdtpBox SencBox
+                SgpdBox SidxBox SratBox SsixBox SthdBox StppBox StypBox Stz2Box SubsBox TcmiBox
+                TencBox TextBox TfraBox TrefBox VvccBox WvttBox
             ]
             $($rest)*
         }
@@ -74,8 +208,12 @@ macro_rules! print_extra {
 /// A box of any type of this crate.
 #[derive(Drop, PartialEq, Eq)]
 pub enum ExtraBox {
+    AlacBox(AlacBox),
+    AuxcBox(AuxcBox),
     Av1cBox(Av1cBox),
     BtrtBox(BtrtBox),
+    ChanBox(ChanBox),
+    ChnlBox(ChnlBox),
     ClapBox(ClapBox),
     ClliBox(ClliBox),
     ColrBox(ColrBox),
@@ -85,15 +223,33 @@ pub enum ExtraBox {
     Dec3Box(Dec3Box),
     DflaBox(DflaBox),
     DopsBox(DopsBox),
+    DvccBox(DvccBox),
+    DvvcBox(DvvcBox),
     ElngBox(ElngBox),
+    EndaBox(EndaBox),
+    FielBox(FielBox),
     FrmaBox(FrmaBox),
+    GminBox(GminBox),
+    HmhdBox(HmhdBox),
     HvccBox(HvccBox),
+    IlocBox(IlocBox),
+    ImirBox(ImirBox),
+    InfeBox(InfeBox),
+    IodsBox(IodsBox),
+    IpmaBox(IpmaBox),
+    IrotBox(IrotBox),
+    IspeBox(IspeBox),
     KeysBox(KeysBox),
     KindBox(KindBox),
+    LevaBox(LevaBox),
     MdcvBox(MdcvBox),
+    MeanBox(MeanBox),
     MfroBox(MfroBox),
+    NameBox(NameBox),
     NmhdBox(NmhdBox),
     PaspBox(PaspBox),
+    PitmBox(PitmBox),
+    PixiBox(PixiBox),
     PrftBox(PrftBox),
     PsshBox(PsshBox),
     SaioBox(SaioBox),
@@ -104,13 +260,19 @@ pub enum ExtraBox {
     SencBox(SencBox),
     SgpdBox(SgpdBox),
     SidxBox(SidxBox),
+    SratBox(SratBox),
+    SsixBox(SsixBox),
+    SthdBox(SthdBox),
     StppBox(StppBox),
     StypBox(StypBox),
     Stz2Box(Stz2Box),
     SubsBox(SubsBox),
+    TcmiBox(TcmiBox),
     TencBox(TencBox),
+    TextBox(TextBox),
     TfraBox(TfraBox),
     TrefBox(TrefBox),
+    VvccBox(VvccBox),
     WvttBox(WvttBox),
 }
 
@@ -142,8 +304,12 @@ trait Declares {
 
 impl Declares for ExtraBox {
     ghost declared = { elim [
+      | types.AlacBox ↦ shaped ⟦<<Alac as DeclaredBox>::Shape as Shape>⟧.shape_laws ⟦<Alac as DeclaredBox>⟧.layout refl
+      | types.AuxcBox ↦ shaped ⟦<<Auxc as DeclaredBox>::Shape as Shape>⟧.shape_laws ⟦<Auxc as DeclaredBox>⟧.layout refl
       | types.Av1cBox ↦ shaped ⟦<<Av1c as DeclaredBox>::Shape as Shape>⟧.shape_laws ⟦<Av1c as DeclaredBox>⟧.layout refl
       | types.BtrtBox ↦ shaped ⟦<<Btrt as DeclaredBox>::Shape as Shape>⟧.shape_laws ⟦<Btrt as DeclaredBox>⟧.layout refl
+      | types.ChanBox ↦ shaped ⟦<<Chan as DeclaredBox>::Shape as Shape>⟧.shape_laws ⟦<Chan as DeclaredBox>⟧.layout refl
+      | types.ChnlBox ↦ shaped ⟦<<Chnl as DeclaredBox>::Shape as Shape>⟧.shape_laws ⟦<Chnl as DeclaredBox>⟧.layout refl
       | types.ClapBox ↦ shaped ⟦<<Clap as DeclaredBox>::Shape as Shape>⟧.shape_laws ⟦<Clap as DeclaredBox>⟧.layout refl
       | types.ClliBox ↦ shaped ⟦<<Clli as DeclaredBox>::Shape as Shape>⟧.shape_laws ⟦<Clli as DeclaredBox>⟧.layout refl
       | types.ColrBox ↦ shaped ⟦<<Colr as DeclaredBox>::Shape as Shape>⟧.shape_laws ⟦<Colr as DeclaredBox>⟧.layout refl
@@ -153,15 +319,33 @@ impl Declares for ExtraBox {
       | types.Dec3Box ↦ shaped ⟦<<Dec3 as DeclaredBox>::Shape as Shape>⟧.shape_laws ⟦<Dec3 as DeclaredBox>⟧.layout refl
       | types.DflaBox ↦ shaped ⟦<<Dfla as DeclaredBox>::Shape as Shape>⟧.shape_laws ⟦<Dfla as DeclaredBox>⟧.layout refl
       | types.DopsBox ↦ shaped ⟦<<Dops as DeclaredBox>::Shape as Shape>⟧.shape_laws ⟦<Dops as DeclaredBox>⟧.layout refl
+      | types.DvccBox ↦ shaped ⟦<<Dvcc as DeclaredBox>::Shape as Shape>⟧.shape_laws ⟦<Dvcc as DeclaredBox>⟧.layout refl
+      | types.DvvcBox ↦ shaped ⟦<<Dvvc as DeclaredBox>::Shape as Shape>⟧.shape_laws ⟦<Dvvc as DeclaredBox>⟧.layout refl
       | types.ElngBox ↦ shaped ⟦<<Elng as DeclaredBox>::Shape as Shape>⟧.shape_laws ⟦<Elng as DeclaredBox>⟧.layout refl
+      | types.EndaBox ↦ shaped ⟦<<Enda as DeclaredBox>::Shape as Shape>⟧.shape_laws ⟦<Enda as DeclaredBox>⟧.layout refl
+      | types.FielBox ↦ shaped ⟦<<Fiel as DeclaredBox>::Shape as Shape>⟧.shape_laws ⟦<Fiel as DeclaredBox>⟧.layout refl
       | types.FrmaBox ↦ shaped ⟦<<Frma as DeclaredBox>::Shape as Shape>⟧.shape_laws ⟦<Frma as DeclaredBox>⟧.layout refl
+      | types.GminBox ↦ shaped ⟦<<Gmin as DeclaredBox>::Shape as Shape>⟧.shape_laws ⟦<Gmin as DeclaredBox>⟧.layout refl
+      | types.HmhdBox ↦ shaped ⟦<<Hmhd as DeclaredBox>::Shape as Shape>⟧.shape_laws ⟦<Hmhd as DeclaredBox>⟧.layout refl
       | types.HvccBox ↦ shaped ⟦<<Hvcc as DeclaredBox>::Shape as Shape>⟧.shape_laws ⟦<Hvcc as DeclaredBox>⟧.layout refl
+      | types.IlocBox ↦ shaped ⟦<<Iloc as DeclaredBox>::Shape as Shape>⟧.shape_laws ⟦<Iloc as DeclaredBox>⟧.layout refl
+      | types.ImirBox ↦ shaped ⟦<<Imir as DeclaredBox>::Shape as Shape>⟧.shape_laws ⟦<Imir as DeclaredBox>⟧.layout refl
+      | types.InfeBox ↦ shaped ⟦<<Infe as DeclaredBox>::Shape as Shape>⟧.shape_laws ⟦<Infe as DeclaredBox>⟧.layout refl
+      | types.IodsBox ↦ shaped ⟦<<Iods as DeclaredBox>::Shape as Shape>⟧.shape_laws ⟦<Iods as DeclaredBox>⟧.layout refl
+      | types.IpmaBox ↦ shaped ⟦<<Ipma as DeclaredBox>::Shape as Shape>⟧.shape_laws ⟦<Ipma as DeclaredBox>⟧.layout refl
+      | types.IrotBox ↦ shaped ⟦<<Irot as DeclaredBox>::Shape as Shape>⟧.shape_laws ⟦<Irot as DeclaredBox>⟧.layout refl
+      | types.IspeBox ↦ shaped ⟦<<Ispe as DeclaredBox>::Shape as Shape>⟧.shape_laws ⟦<Ispe as DeclaredBox>⟧.layout refl
       | types.KeysBox ↦ shaped ⟦<<Keys as DeclaredBox>::Shape as Shape>⟧.shape_laws ⟦<Keys as DeclaredBox>⟧.layout refl
       | types.KindBox ↦ shaped ⟦<<Kind as DeclaredBox>::Shape as Shape>⟧.shape_laws ⟦<Kind as DeclaredBox>⟧.layout refl
+      | types.LevaBox ↦ shaped ⟦<<Leva as DeclaredBox>::Shape as Shape>⟧.shape_laws ⟦<Leva as DeclaredBox>⟧.layout refl
       | types.MdcvBox ↦ shaped ⟦<<Mdcv as DeclaredBox>::Shape as Shape>⟧.shape_laws ⟦<Mdcv as DeclaredBox>⟧.layout refl
+      | types.MeanBox ↦ shaped ⟦<<Mean as DeclaredBox>::Shape as Shape>⟧.shape_laws ⟦<Mean as DeclaredBox>⟧.layout refl
       | types.MfroBox ↦ shaped ⟦<<Mfro as DeclaredBox>::Shape as Shape>⟧.shape_laws ⟦<Mfro as DeclaredBox>⟧.layout refl
+      | types.NameBox ↦ shaped ⟦<<Name as DeclaredBox>::Shape as Shape>⟧.shape_laws ⟦<Name as DeclaredBox>⟧.layout refl
       | types.NmhdBox ↦ shaped ⟦<<Nmhd as DeclaredBox>::Shape as Shape>⟧.shape_laws ⟦<Nmhd as DeclaredBox>⟧.layout refl
       | types.PaspBox ↦ shaped ⟦<<Pasp as DeclaredBox>::Shape as Shape>⟧.shape_laws ⟦<Pasp as DeclaredBox>⟧.layout refl
+      | types.PitmBox ↦ shaped ⟦<<Pitm as DeclaredBox>::Shape as Shape>⟧.shape_laws ⟦<Pitm as DeclaredBox>⟧.layout refl
+      | types.PixiBox ↦ shaped ⟦<<Pixi as DeclaredBox>::Shape as Shape>⟧.shape_laws ⟦<Pixi as DeclaredBox>⟧.layout refl
       | types.PrftBox ↦ shaped ⟦<<Prft as DeclaredBox>::Shape as Shape>⟧.shape_laws ⟦<Prft as DeclaredBox>⟧.layout refl
       | types.PsshBox ↦ shaped ⟦<<Pssh as DeclaredBox>::Shape as Shape>⟧.shape_laws ⟦<Pssh as DeclaredBox>⟧.layout refl
       | types.SaioBox ↦ shaped ⟦<<Saio as DeclaredBox>::Shape as Shape>⟧.shape_laws ⟦<Saio as DeclaredBox>⟧.layout refl
@@ -172,13 +356,19 @@ impl Declares for ExtraBox {
       | types.SencBox ↦ shaped ⟦<<Senc as DeclaredBox>::Shape as Shape>⟧.shape_laws ⟦<Senc as DeclaredBox>⟧.layout refl
       | types.SgpdBox ↦ shaped ⟦<<Sgpd as DeclaredBox>::Shape as Shape>⟧.shape_laws ⟦<Sgpd as DeclaredBox>⟧.layout refl
       | types.SidxBox ↦ shaped ⟦<<Sidx as DeclaredBox>::Shape as Shape>⟧.shape_laws ⟦<Sidx as DeclaredBox>⟧.layout refl
+      | types.SratBox ↦ shaped ⟦<<Srat as DeclaredBox>::Shape as Shape>⟧.shape_laws ⟦<Srat as DeclaredBox>⟧.layout refl
+      | types.SsixBox ↦ shaped ⟦<<Ssix as DeclaredBox>::Shape as Shape>⟧.shape_laws ⟦<Ssix as DeclaredBox>⟧.layout refl
+      | types.SthdBox ↦ shaped ⟦<<Sthd as DeclaredBox>::Shape as Shape>⟧.shape_laws ⟦<Sthd as DeclaredBox>⟧.layout refl
       | types.StppBox ↦ shaped ⟦<<Stpp as DeclaredBox>::Shape as Shape>⟧.shape_laws ⟦<Stpp as DeclaredBox>⟧.layout refl
       | types.StypBox ↦ shaped ⟦<<Styp as DeclaredBox>::Shape as Shape>⟧.shape_laws ⟦<Styp as DeclaredBox>⟧.layout refl
       | types.Stz2Box ↦ shaped ⟦<<Stz2 as DeclaredBox>::Shape as Shape>⟧.shape_laws ⟦<Stz2 as DeclaredBox>⟧.layout refl
       | types.SubsBox ↦ shaped ⟦<<Subs as DeclaredBox>::Shape as Shape>⟧.shape_laws ⟦<Subs as DeclaredBox>⟧.layout refl
+      | types.TcmiBox ↦ shaped ⟦<<Tcmi as DeclaredBox>::Shape as Shape>⟧.shape_laws ⟦<Tcmi as DeclaredBox>⟧.layout refl
       | types.TencBox ↦ shaped ⟦<<Tenc as DeclaredBox>::Shape as Shape>⟧.shape_laws ⟦<Tenc as DeclaredBox>⟧.layout refl
+      | types.TextBox ↦ shaped ⟦<<Text as DeclaredBox>::Shape as Shape>⟧.shape_laws ⟦<Text as DeclaredBox>⟧.layout refl
       | types.TfraBox ↦ shaped ⟦<<Tfra as DeclaredBox>::Shape as Shape>⟧.shape_laws ⟦<Tfra as DeclaredBox>⟧.layout refl
       | types.TrefBox ↦ shaped ⟦<<Tref as DeclaredBox>::Shape as Shape>⟧.shape_laws ⟦<Tref as DeclaredBox>⟧.layout refl
+      | types.VvccBox ↦ shaped ⟦<<Vvcc as DeclaredBox>::Shape as Shape>⟧.shape_laws ⟦<Vvcc as DeclaredBox>⟧.layout refl
       | types.WvttBox ↦ shaped ⟦<<Wvtt as DeclaredBox>::Shape as Shape>⟧.shape_laws ⟦<Wvtt as DeclaredBox>⟧.layout refl
     ] };
 }
@@ -235,6 +425,22 @@ impl CodedEnum for ExtraBox {
     ghost coded = { by_code ⟦<ExtraBox as Declares>⟧.declared };
 }
 
+impl Holds<AlacBox> for ExtraBox {
+    ghost wrapped = { boxes.AlacBox };
+
+    fn wrap(value: AlacBox) -> ExtraBox {
+        ExtraBox::AlacBox(value)
+    }
+}
+
+impl Holds<AuxcBox> for ExtraBox {
+    ghost wrapped = { boxes.AuxcBox };
+
+    fn wrap(value: AuxcBox) -> ExtraBox {
+        ExtraBox::AuxcBox(value)
+    }
+}
+
 impl Holds<Av1cBox> for ExtraBox {
     ghost wrapped = { boxes.Av1cBox };
 
@@ -248,6 +454,22 @@ impl Holds<BtrtBox> for ExtraBox {
 
     fn wrap(value: BtrtBox) -> ExtraBox {
         ExtraBox::BtrtBox(value)
+    }
+}
+
+impl Holds<ChanBox> for ExtraBox {
+    ghost wrapped = { boxes.ChanBox };
+
+    fn wrap(value: ChanBox) -> ExtraBox {
+        ExtraBox::ChanBox(value)
+    }
+}
+
+impl Holds<ChnlBox> for ExtraBox {
+    ghost wrapped = { boxes.ChnlBox };
+
+    fn wrap(value: ChnlBox) -> ExtraBox {
+        ExtraBox::ChnlBox(value)
     }
 }
 
@@ -323,11 +545,43 @@ impl Holds<DopsBox> for ExtraBox {
     }
 }
 
+impl Holds<DvccBox> for ExtraBox {
+    ghost wrapped = { boxes.DvccBox };
+
+    fn wrap(value: DvccBox) -> ExtraBox {
+        ExtraBox::DvccBox(value)
+    }
+}
+
+impl Holds<DvvcBox> for ExtraBox {
+    ghost wrapped = { boxes.DvvcBox };
+
+    fn wrap(value: DvvcBox) -> ExtraBox {
+        ExtraBox::DvvcBox(value)
+    }
+}
+
 impl Holds<ElngBox> for ExtraBox {
     ghost wrapped = { boxes.ElngBox };
 
     fn wrap(value: ElngBox) -> ExtraBox {
         ExtraBox::ElngBox(value)
+    }
+}
+
+impl Holds<EndaBox> for ExtraBox {
+    ghost wrapped = { boxes.EndaBox };
+
+    fn wrap(value: EndaBox) -> ExtraBox {
+        ExtraBox::EndaBox(value)
+    }
+}
+
+impl Holds<FielBox> for ExtraBox {
+    ghost wrapped = { boxes.FielBox };
+
+    fn wrap(value: FielBox) -> ExtraBox {
+        ExtraBox::FielBox(value)
     }
 }
 
@@ -339,11 +593,83 @@ impl Holds<FrmaBox> for ExtraBox {
     }
 }
 
+impl Holds<GminBox> for ExtraBox {
+    ghost wrapped = { boxes.GminBox };
+
+    fn wrap(value: GminBox) -> ExtraBox {
+        ExtraBox::GminBox(value)
+    }
+}
+
+impl Holds<HmhdBox> for ExtraBox {
+    ghost wrapped = { boxes.HmhdBox };
+
+    fn wrap(value: HmhdBox) -> ExtraBox {
+        ExtraBox::HmhdBox(value)
+    }
+}
+
 impl Holds<HvccBox> for ExtraBox {
     ghost wrapped = { boxes.HvccBox };
 
     fn wrap(value: HvccBox) -> ExtraBox {
         ExtraBox::HvccBox(value)
+    }
+}
+
+impl Holds<IlocBox> for ExtraBox {
+    ghost wrapped = { boxes.IlocBox };
+
+    fn wrap(value: IlocBox) -> ExtraBox {
+        ExtraBox::IlocBox(value)
+    }
+}
+
+impl Holds<ImirBox> for ExtraBox {
+    ghost wrapped = { boxes.ImirBox };
+
+    fn wrap(value: ImirBox) -> ExtraBox {
+        ExtraBox::ImirBox(value)
+    }
+}
+
+impl Holds<InfeBox> for ExtraBox {
+    ghost wrapped = { boxes.InfeBox };
+
+    fn wrap(value: InfeBox) -> ExtraBox {
+        ExtraBox::InfeBox(value)
+    }
+}
+
+impl Holds<IodsBox> for ExtraBox {
+    ghost wrapped = { boxes.IodsBox };
+
+    fn wrap(value: IodsBox) -> ExtraBox {
+        ExtraBox::IodsBox(value)
+    }
+}
+
+impl Holds<IpmaBox> for ExtraBox {
+    ghost wrapped = { boxes.IpmaBox };
+
+    fn wrap(value: IpmaBox) -> ExtraBox {
+        ExtraBox::IpmaBox(value)
+    }
+}
+
+impl Holds<IrotBox> for ExtraBox {
+    ghost wrapped = { boxes.IrotBox };
+
+    fn wrap(value: IrotBox) -> ExtraBox {
+        ExtraBox::IrotBox(value)
+    }
+}
+
+impl Holds<IspeBox> for ExtraBox {
+    ghost wrapped = { boxes.IspeBox };
+
+    fn wrap(value: IspeBox) -> ExtraBox {
+        ExtraBox::IspeBox(value)
     }
 }
 
@@ -363,6 +689,14 @@ impl Holds<KindBox> for ExtraBox {
     }
 }
 
+impl Holds<LevaBox> for ExtraBox {
+    ghost wrapped = { boxes.LevaBox };
+
+    fn wrap(value: LevaBox) -> ExtraBox {
+        ExtraBox::LevaBox(value)
+    }
+}
+
 impl Holds<MdcvBox> for ExtraBox {
     ghost wrapped = { boxes.MdcvBox };
 
@@ -371,11 +705,27 @@ impl Holds<MdcvBox> for ExtraBox {
     }
 }
 
+impl Holds<MeanBox> for ExtraBox {
+    ghost wrapped = { boxes.MeanBox };
+
+    fn wrap(value: MeanBox) -> ExtraBox {
+        ExtraBox::MeanBox(value)
+    }
+}
+
 impl Holds<MfroBox> for ExtraBox {
     ghost wrapped = { boxes.MfroBox };
 
     fn wrap(value: MfroBox) -> ExtraBox {
         ExtraBox::MfroBox(value)
+    }
+}
+
+impl Holds<NameBox> for ExtraBox {
+    ghost wrapped = { boxes.NameBox };
+
+    fn wrap(value: NameBox) -> ExtraBox {
+        ExtraBox::NameBox(value)
     }
 }
 
@@ -392,6 +742,22 @@ impl Holds<PaspBox> for ExtraBox {
 
     fn wrap(value: PaspBox) -> ExtraBox {
         ExtraBox::PaspBox(value)
+    }
+}
+
+impl Holds<PitmBox> for ExtraBox {
+    ghost wrapped = { boxes.PitmBox };
+
+    fn wrap(value: PitmBox) -> ExtraBox {
+        ExtraBox::PitmBox(value)
+    }
+}
+
+impl Holds<PixiBox> for ExtraBox {
+    ghost wrapped = { boxes.PixiBox };
+
+    fn wrap(value: PixiBox) -> ExtraBox {
+        ExtraBox::PixiBox(value)
     }
 }
 
@@ -475,6 +841,30 @@ impl Holds<SidxBox> for ExtraBox {
     }
 }
 
+impl Holds<SratBox> for ExtraBox {
+    ghost wrapped = { boxes.SratBox };
+
+    fn wrap(value: SratBox) -> ExtraBox {
+        ExtraBox::SratBox(value)
+    }
+}
+
+impl Holds<SsixBox> for ExtraBox {
+    ghost wrapped = { boxes.SsixBox };
+
+    fn wrap(value: SsixBox) -> ExtraBox {
+        ExtraBox::SsixBox(value)
+    }
+}
+
+impl Holds<SthdBox> for ExtraBox {
+    ghost wrapped = { boxes.SthdBox };
+
+    fn wrap(value: SthdBox) -> ExtraBox {
+        ExtraBox::SthdBox(value)
+    }
+}
+
 impl Holds<StppBox> for ExtraBox {
     ghost wrapped = { boxes.StppBox };
 
@@ -507,11 +897,27 @@ impl Holds<SubsBox> for ExtraBox {
     }
 }
 
+impl Holds<TcmiBox> for ExtraBox {
+    ghost wrapped = { boxes.TcmiBox };
+
+    fn wrap(value: TcmiBox) -> ExtraBox {
+        ExtraBox::TcmiBox(value)
+    }
+}
+
 impl Holds<TencBox> for ExtraBox {
     ghost wrapped = { boxes.TencBox };
 
     fn wrap(value: TencBox) -> ExtraBox {
         ExtraBox::TencBox(value)
+    }
+}
+
+impl Holds<TextBox> for ExtraBox {
+    ghost wrapped = { boxes.TextBox };
+
+    fn wrap(value: TextBox) -> ExtraBox {
+        ExtraBox::TextBox(value)
     }
 }
 
@@ -528,6 +934,14 @@ impl Holds<TrefBox> for ExtraBox {
 
     fn wrap(value: TrefBox) -> ExtraBox {
         ExtraBox::TrefBox(value)
+    }
+}
+
+impl Holds<VvccBox> for ExtraBox {
+    ghost wrapped = { boxes.VvccBox };
+
+    fn wrap(value: VvccBox) -> ExtraBox {
+        ExtraBox::VvccBox(value)
     }
 }
 

@@ -1,8 +1,9 @@
 //! The fields of boxes of segments and fragments as JSON. The names and their order are those of the standard's syntax.
 
+use crate::tests::bytes_of;
 use crate::tests::fields::is_shown;
-use mp4_extra::{Mfro, Prft, Sidx, SidxEntry, Styp};
-use mp4_stream::{FourCC, Result as Made};
+use mp4_extra::{Leva, Mfro, Prft, Sidx, SidxEntry, Ssix, SsixRange, SsixSubsegment, Styp};
+use mp4_stream::{Entries, FourCC, Result as Made};
 use std::alloc::Global;
 use std::test::Fail;
 
@@ -166,5 +167,63 @@ fn times_and_sizes(rt: HostRuntime) -> Result<(), Fail> {
         is_shown(alloc, &mfro, "\"version\":1,\"flags\":2,\"parent_size\":3"),
     ];
     assert_eq!(rt; shown, [true; 3]);
+    Ok(())
+}
+
+/// Makes an `ssix` with a subsegment of two ranges, and one of none.
+fn ssix(alloc: Global) -> Made<Ssix> {
+    let ranges = [
+        SsixRange {
+            level: 2,
+            range_size: 3,
+        },
+        SsixRange {
+            level: 4,
+            range_size: 0xFF_FFFF,
+        },
+    ];
+    let mut subsegments = Entries::new(alloc);
+    subsegments.push(SsixSubsegment {
+        ranges: Vec::from_slice(alloc, &ranges)?.into(),
+    })?;
+    subsegments.push(SsixSubsegment {
+        ranges: Entries::new(alloc),
+    })?;
+    Ok(Ssix {
+        version: 1,
+        flags: 0x01_0203,
+        subsegments,
+    })
+}
+
+/// Returns whether an `ssix` and a `leva` are shown.
+fn levels_are_shown(alloc: Global) -> Made<[bool; 2]> {
+    let leva = Leva {
+        version: 1,
+        flags: 0x01_0203,
+        level_count: 4,
+        levels: bytes_of(alloc, b"\x05\x06")?,
+    };
+    Ok([
+        is_shown(
+            alloc,
+            &ssix(alloc)?,
+            "\"version\":1,\"flags\":66051,\"subsegment_count\":2,\"subsegments\":[\
+            {\"range_count\":2,\"ranges\":[{\"level\":2,\"range_size\":3},\
+            {\"level\":4,\"range_size\":16777215}]},{\"range_count\":0,\"ranges\":[]}]",
+        ),
+        is_shown(
+            alloc,
+            &leva,
+            "\"version\":1,\"flags\":66051,\"level_count\":4,\"data_bytes\":\"0506\"",
+        ),
+    ])
+}
+
+/// ISO/IEC 14496-12, 8.16.4 and 8.8.13: `ssix` and `leva`.
+#[test]
+fn levels_of_segments(rt: HostRuntime) -> Result<(), Fail> {
+    let shown = levels_are_shown(rt.alloc())?;
+    assert_eq!(rt; shown, [true; 2]);
     Ok(())
 }

@@ -1,0 +1,27 @@
+"""`chnl`, the layout of the channels of a sound: a byte in version 0, two in version 1, and bytes up to its end. The
+bytes of the fields count up from 0x81, after the version."""
+
+from tests.rows.making import WRONG_VERSION, Box, box, changed, counting, declared, declared_as
+
+CHNL = box(b"chnl", b"\0", counting(0x81, 0x8D))
+LATER = changed(CHNL, {8: 1})
+# The bits of 0x84 are 1000 and 0100.
+STRUCTURE = {"stream_structure": 8, "format_ordering": 4, "base_channel_count": 0x85}
+
+
+def chnl(version, **fields):
+    return Box("chnl", version=version, flags=0x818283, **fields)
+
+
+def each_version():
+    yield from declared_as(CHNL, chnl(0, stream_structure=0x84, structure=None, layout=[*counting(0x85, 0x8D)]))
+    yield from declared_as(LATER, chnl(1, stream_structure=None, structure=STRUCTURE, layout=[*counting(0x86, 0x8D)]))
+
+
+def no_layout():
+    yield from declared_as(box(b"chnl", CHNL[8:13]), chnl(0, stream_structure=0x84, structure=None, layout=[]))
+    yield from declared_as(box(b"chnl", LATER[8:14]), chnl(1, stream_structure=None, structure=STRUCTURE, layout=[]))
+
+
+def version_2():
+    yield declared(changed(CHNL, {8: 2}), WRONG_VERSION)

@@ -1,0 +1,20 @@
+"""`dvvC`, how to decode Dolby Vision, a box without version: two bytes, bits, and 16 reserved bytes. The bits after the
+two bytes are 1000011 101100 1 0 1, and 1001 followed by 0xabcdef9."""
+
+from tests.rows.making import Box, box, changed, declared, declared_as
+
+DVVC = box(b"dvvC", b"\x81\x82\x87\x65\x9a\xbc\xde\xf9", bytes(16))
+CONFIG = {
+    "dv_version_major": 0x81, "dv_version_minor": 0x82, "dv_profile": 0x43, "dv_level": 0x2C,
+    "rpu_present_flag": True, "el_present_flag": False, "bl_present_flag": True,
+    "dv_bl_signal_compatibility_id": 9, "reserved": 0xABCDEF9,
+}
+
+
+def bits():
+    yield from declared_as(DVVC, Box("dvvc", config=CONFIG))
+
+
+def reserved_bytes_are_left_out():
+    other = changed(DVVC, {place: 0xD0 + place for place in range(16, 32)})
+    yield declared(other, Box("dvvc", config=CONFIG), DVVC)

@@ -1,0 +1,19 @@
+"""`leva`, the levels of fragments: a number of levels, and bytes up to its end. The bytes of the fields count up from
+0x81, after the version."""
+
+from tests.rows.making import NO_VERSION_1, Box, box, changed, counting, declared, declared_as
+
+LEVA = box(b"leva", b"\0", counting(0x81, 0x89))
+
+
+def leva(levels):
+    return Box("leva", version=0, flags=0x818283, level_count=0x84, levels=list(levels))
+
+
+def five_bytes_and_none():
+    yield from declared_as(LEVA, leva(counting(0x85, 0x89)))
+    yield from declared_as(box(b"leva", LEVA[8:13]), leva(b""))
+
+
+def version_1():
+    yield declared(changed(LEVA, {8: 1}), NO_VERSION_1)
