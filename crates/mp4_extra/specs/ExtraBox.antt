@@ -15,8 +15,8 @@ use Rattle.mp4_extra.specs.declared.extra_box.ExtraBox.{ExtraBox}
 use Rattle.mp4_extra.specs.declared.extra_box.ExtraBox.TheVariants as boxes
 use Rattle.mp4_extra_media.specs.declared.{av1c.Av1c.Av1c, btrt.Btrt.Btrt, clap.Clap.Clap, clli.Clli.Clli}
 use Rattle.mp4_extra_media.specs.declared.{colr.Colr.Colr, dac3.Dac3.Dac3, dec3.Dec3.Dec3, dfla.Dfla.Dfla}
-use Rattle.mp4_extra_media.specs.declared.{dops.Dops.Dops, hvcc.Hvcc.Hvcc, mdcv.Mdcv.Mdcv, pasp.Pasp.Pasp}
-use Rattle.mp4_extra_media.specs.declared.{stpp.Stpp.Stpp, wvtt.Wvtt.Wvtt}
+use Rattle.mp4_extra_media.specs.declared.{dops.Dops.Dops, esds.Esds.Esds, hvcc.Hvcc.Hvcc, mdcv.Mdcv.Mdcv}
+use Rattle.mp4_extra_media.specs.declared.{pasp.Pasp.Pasp, stpp.Stpp.Stpp, wvtt.Wvtt.Wvtt}
 use Rattle.mp4_extra_samples.specs.declared.{cslg.Cslg.Cslg, saio.Saio.Saio, saiz.Saiz.Saiz, sbgp.Sbgp.Sbgp}
 use Rattle.mp4_extra_samples.specs.declared.{sdtp.Sdtp.Sdtp, senc.Senc.Senc, sgpd.Sgpd.Sgpd, stz2.Stz2.Stz2}
 use Rattle.mp4_extra_samples.specs.declared.{subs.Subs.Subs}
@@ -76,6 +76,7 @@ FieldsOf types.DvvcBox = Dvvc
 FieldsOf types.ElngBox = Elng
 FieldsOf types.EndaBox = Enda
 FieldsOf types.FielBox = Fiel
+FieldsOf types.EsdsBox = Esds
 FieldsOf types.FrmaBox = Frma
 FieldsOf types.GminBox = Gmin
 FieldsOf types.HmhdBox = Hmhd
@@ -144,6 +145,7 @@ wrap types.DvvcBox = boxes.DvvcBox
 wrap types.ElngBox = boxes.ElngBox
 wrap types.EndaBox = boxes.EndaBox
 wrap types.FielBox = boxes.FielBox
+wrap types.EsdsBox = boxes.EsdsBox
 wrap types.FrmaBox = boxes.FrmaBox
 wrap types.GminBox = boxes.GminBox
 wrap types.HmhdBox = boxes.HmhdBox
@@ -213,6 +215,7 @@ opened (boxes.DvvcBox fields) = (types.DvvcBox, fields)
 opened (boxes.ElngBox fields) = (types.ElngBox, fields)
 opened (boxes.EndaBox fields) = (types.EndaBox, fields)
 opened (boxes.FielBox fields) = (types.FielBox, fields)
+opened (boxes.EsdsBox fields) = (types.EsdsBox, fields)
 opened (boxes.FrmaBox fields) = (types.FrmaBox, fields)
 opened (boxes.GminBox fields) = (types.GminBox, fields)
 opened (boxes.HmhdBox fields) = (types.HmhdBox, fields)

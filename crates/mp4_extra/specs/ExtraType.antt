@@ -47,6 +47,7 @@ code_of_type types.DvvcBox = DVVC
 code_of_type types.ElngBox = codes.ELNG
 code_of_type types.EndaBox = ENDA
 code_of_type types.FielBox = FIEL
+code_of_type types.EsdsBox = codes.ESDS
 code_of_type types.FrmaBox = codes.FRMA
 code_of_type types.GminBox = GMIN
 code_of_type types.HmhdBox = codes.HMHD
@@ -98,14 +99,14 @@ abbrev pub all_types : List ExtraType
 all_types =
     types.AlacBox ∷ types.AuxcBox ∷ types.Av1cBox ∷ types.BtrtBox ∷ types.ChanBox ∷ types.ChnlBox ∷ types.ClapBox
     ∷ types.ClliBox ∷ types.ColrBox ∷ types.CslgBox ∷ types.Dac3Box ∷ types.DataBox ∷ types.Dec3Box ∷ types.DflaBox
-    ∷ types.DopsBox ∷ types.DvccBox ∷ types.DvvcBox ∷ types.ElngBox ∷ types.EndaBox ∷ types.FielBox ∷ types.FrmaBox
-    ∷ types.GminBox ∷ types.HmhdBox ∷ types.HvccBox ∷ types.IlocBox ∷ types.ImirBox ∷ types.InfeBox ∷ types.IodsBox
-    ∷ types.IpmaBox ∷ types.IrotBox ∷ types.IspeBox ∷ types.KeysBox ∷ types.KindBox ∷ types.LevaBox ∷ types.MdcvBox
-    ∷ types.MeanBox ∷ types.MfroBox ∷ types.NameBox ∷ types.NmhdBox ∷ types.PaspBox ∷ types.PitmBox ∷ types.PixiBox
-    ∷ types.PrftBox ∷ types.PsshBox ∷ types.SaioBox ∷ types.SaizBox ∷ types.SbgpBox ∷ types.SchmBox ∷ types.SdtpBox
-    ∷ types.SencBox ∷ types.SgpdBox ∷ types.SidxBox ∷ types.SratBox ∷ types.SsixBox ∷ types.SthdBox ∷ types.StppBox
-    ∷ types.StypBox ∷ types.Stz2Box ∷ types.SubsBox ∷ types.TcmiBox ∷ types.TencBox ∷ types.TextBox ∷ types.TfraBox
-    ∷ types.TrefBox ∷ types.VvccBox ∷ types.WvttBox ∷ []
+    ∷ types.DopsBox ∷ types.DvccBox ∷ types.DvvcBox ∷ types.ElngBox ∷ types.EndaBox ∷ types.EsdsBox ∷ types.FielBox
+    ∷ types.FrmaBox ∷ types.GminBox ∷ types.HmhdBox ∷ types.HvccBox ∷ types.IlocBox ∷ types.ImirBox ∷ types.InfeBox
+    ∷ types.IodsBox ∷ types.IpmaBox ∷ types.IrotBox ∷ types.IspeBox ∷ types.KeysBox ∷ types.KindBox ∷ types.LevaBox
+    ∷ types.MdcvBox ∷ types.MeanBox ∷ types.MfroBox ∷ types.NameBox ∷ types.NmhdBox ∷ types.PaspBox ∷ types.PitmBox
+    ∷ types.PixiBox ∷ types.PrftBox ∷ types.PsshBox ∷ types.SaioBox ∷ types.SaizBox ∷ types.SbgpBox ∷ types.SchmBox
+    ∷ types.SdtpBox ∷ types.SencBox ∷ types.SgpdBox ∷ types.SidxBox ∷ types.SratBox ∷ types.SsixBox ∷ types.SthdBox
+    ∷ types.StppBox ∷ types.StypBox ∷ types.Stz2Box ∷ types.SubsBox ∷ types.TcmiBox ∷ types.TencBox ∷ types.TextBox
+    ∷ types.TfraBox ∷ types.TrefBox ∷ types.VvccBox ∷ types.WvttBox ∷ []
 
 -- the type of this code among some types
 abbrev pub type_among : List ExtraType → ℕ → Option ExtraType

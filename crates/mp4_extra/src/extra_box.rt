@@ -49,6 +49,8 @@ use crate::Elng;
 use crate::ElngBox;
 use crate::Enda;
 use crate::EndaBox;
+use crate::Esds;
+use crate::EsdsBox;
 use crate::Fiel;
 use crate::FielBox;
 use crate::Frma;
@@ -166,12 +168,12 @@ macro_rules! of_boxes {
         $go! {
             [
                 AlacBox AuxcBox Av1cBox BtrtBox ChanBox ChnlBox ClapBox ClliBox ColrBox CslgBox
-                Dac3Box DataBox Dec3Box DflaBox DopsBox DvccBox DvvcBox ElngBox EndaBox FielBox
-                FrmaBox GminBox HmhdBox HvccBox IlocBox ImirBox InfeBox IodsBox IpmaBox IrotBox
-                IspeBox KeysBox KindBox LevaBox MdcvBox MeanBox MfroBox NameBox NmhdBox PaspBox
-                PitmBox PixiBox PrftBox PsshBox SaioBox SaizBox SbgpBox SchmBox SdtpBox SencBox
-                SgpdBox SidxBox SratBox SsixBox SthdBox StppBox StypBox Stz2Box SubsBox TcmiBox
-                TencBox TextBox TfraBox TrefBox VvccBox WvttBox
+                Dac3Box DataBox Dec3Box DflaBox DopsBox DvccBox DvvcBox ElngBox EndaBox EsdsBox
+                FielBox FrmaBox GminBox HmhdBox HvccBox IlocBox ImirBox InfeBox IodsBox IpmaBox
+                IrotBox IspeBox KeysBox KindBox LevaBox MdcvBox MeanBox MfroBox NameBox NmhdBox
+                PaspBox PitmBox PixiBox PrftBox PsshBox SaioBox SaizBox SbgpBox SchmBox SdtpBox
+                SencBox SgpdBox SidxBox SratBox SsixBox SthdBox StppBox StypBox Stz2Box SubsBox
+                TcmiBox TencBox TextBox TfraBox TrefBox VvccBox WvttBox
             ]
             $($rest)*
         }
@@ -228,6 +230,7 @@ pub enum ExtraBox {
     ElngBox(ElngBox),
     EndaBox(EndaBox),
     FielBox(FielBox),
+    EsdsBox(EsdsBox),
     FrmaBox(FrmaBox),
     GminBox(GminBox),
     HmhdBox(HmhdBox),
@@ -324,6 +327,7 @@ impl Declares for ExtraBox {
       | types.ElngBox ↦ shaped ⟦<<Elng as DeclaredBox>::Shape as Shape>⟧.shape_laws ⟦<Elng as DeclaredBox>⟧.layout refl
       | types.EndaBox ↦ shaped ⟦<<Enda as DeclaredBox>::Shape as Shape>⟧.shape_laws ⟦<Enda as DeclaredBox>⟧.layout refl
       | types.FielBox ↦ shaped ⟦<<Fiel as DeclaredBox>::Shape as Shape>⟧.shape_laws ⟦<Fiel as DeclaredBox>⟧.layout refl
+      | types.EsdsBox ↦ shaped ⟦<<Esds as DeclaredBox>::Shape as Shape>⟧.shape_laws ⟦<Esds as DeclaredBox>⟧.layout refl
       | types.FrmaBox ↦ shaped ⟦<<Frma as DeclaredBox>::Shape as Shape>⟧.shape_laws ⟦<Frma as DeclaredBox>⟧.layout refl
       | types.GminBox ↦ shaped ⟦<<Gmin as DeclaredBox>::Shape as Shape>⟧.shape_laws ⟦<Gmin as DeclaredBox>⟧.layout refl
       | types.HmhdBox ↦ shaped ⟦<<Hmhd as DeclaredBox>::Shape as Shape>⟧.shape_laws ⟦<Hmhd as DeclaredBox>⟧.layout refl
@@ -582,6 +586,14 @@ impl Holds<FielBox> for ExtraBox {
 
     fn wrap(value: FielBox) -> ExtraBox {
         ExtraBox::FielBox(value)
+    }
+}
+
+impl Holds<EsdsBox> for ExtraBox {
+    ghost wrapped = { boxes.EsdsBox };
+
+    fn wrap(value: EsdsBox) -> ExtraBox {
+        ExtraBox::EsdsBox(value)
     }
 }
 

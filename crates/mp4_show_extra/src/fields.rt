@@ -37,6 +37,7 @@ pub fn put_extra<K: FieldSink>(extra: &ExtraBox, sink: &mut K) -> Result<()>
         ExtraBox::DvvcBox(b) => put_declared(b, sink),
         ExtraBox::ElngBox(b) => put_declared(b, sink),
         ExtraBox::EndaBox(b) => put_declared(b, sink),
+        ExtraBox::EsdsBox(b) => put_declared(b, sink),
         ExtraBox::FielBox(b) => put_declared(b, sink),
         ExtraBox::FrmaBox(b) => put_declared(b, sink),
         ExtraBox::GminBox(b) => put_declared(b, sink),

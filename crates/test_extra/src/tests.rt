@@ -6,6 +6,7 @@ mod fields;
 mod fields_auxiliary;
 mod fields_colours;
 mod fields_decoded;
+mod fields_descriptors;
 mod fields_groups;
 mod fields_items;
 mod fields_pictures;

@@ -117,6 +117,11 @@ returns-in-FielBox-clause-answer c =
     of_type c.args.of types.FielBox _ c.args.reader.now.bytes.now (c.args.reader.now.position - 8) c.args.size
     c.in-FielBox.is c.read_as-in-FielBox.ensures.answer
 
+pub returns-in-EsdsBox-clause-answer : goal.returns-in-EsdsBox-clause-answer
+returns-in-EsdsBox-clause-answer c =
+    of_type c.args.of types.EsdsBox _ c.args.reader.now.bytes.now (c.args.reader.now.position - 8) c.args.size
+    c.in-EsdsBox.is c.read_as-in-EsdsBox.ensures.answer
+
 pub returns-in-FrmaBox-clause-answer : goal.returns-in-FrmaBox-clause-answer
 returns-in-FrmaBox-clause-answer c =
     of_type c.args.of types.FrmaBox _ c.args.reader.now.bytes.now (c.args.reader.now.position - 8) c.args.size

@@ -120,6 +120,12 @@ visit_declared-requires-in-FielBox g c = rw c.in-FielBox.is at c.requires
 pub returns-in-FielBox : goal.returns-in-FielBox
 returns-in-FielBox g c = rw c.in-FielBox.is c.visit_declared-in-FielBox.ensures
 
+pub visit_declared-requires-in-EsdsBox : goal.visit_declared-requires-in-EsdsBox
+visit_declared-requires-in-EsdsBox g c = rw c.in-EsdsBox.is at c.requires
+
+pub returns-in-EsdsBox : goal.returns-in-EsdsBox
+returns-in-EsdsBox g c = rw c.in-EsdsBox.is c.visit_declared-in-EsdsBox.ensures
+
 pub visit_declared-requires-in-FrmaBox : goal.visit_declared-requires-in-FrmaBox
 visit_declared-requires-in-FrmaBox g c = rw c.in-FrmaBox.is at c.requires
 
