@@ -232,8 +232,8 @@ const NONE: EsFlags = EsFlags {
     stream_priority: 0,
 };
 
-/// A configuration of the synchronization layer that isn't predefined, and a byte after it: flags 1 0 1 1 0 0 1 0, clocks
-/// of 90000 and 27000000 Hz, lengths of 33, 42, 32 and 16 bits, of 5, 17 and 9 bits, and reserved bits.
+/// A configuration of the synchronization layer that isn't predefined, and a byte after it: flags 1 0 1 1 0 0 1 0,
+/// clocks of 90000 and 27000000 Hz, lengths of 33, 42, 32 and 16 bits, of 5, 17 and 9 bits, and reserved bits.
 const LAYER: &[u8] =
     b"\x00\xB2\x00\x01\x5F\x90\x01\x9B\xFC\xC0\x21\x2A\x20\x10\x58\xA7\x77";
 
@@ -272,8 +272,8 @@ fn streams(alloc: Global) -> Made<[bool; 2]> {
     ])
 }
 
-/// Returns the endings for boxes with a size that doesn't fit, two numbers of bytes that no size has, and a part without
-/// its flag.
+/// Returns the endings for boxes with a size that doesn't fit, two numbers of bytes that no size has, and a part
+/// without its flag.
 fn unfit(alloc: Global) -> Made<[&'static str; 4]> {
     let mut small = esds(alloc, NONE, b"\x02", b"")?;
     small.es.decoder_config.descriptors = descriptors(alloc, 5, 1, &[0; 128])?;
