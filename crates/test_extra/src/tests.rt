@@ -4,6 +4,9 @@
 
 mod fields;
 mod fields_auxiliary;
+mod fields_codec;
+mod fields_codec_entries;
+mod fields_codec_samples;
 mod fields_colours;
 mod fields_decoded;
 mod fields_descriptors;

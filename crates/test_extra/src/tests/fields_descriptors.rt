@@ -49,8 +49,7 @@ fn config(alloc: Global, kind: u8, tag: u8, content: &[u8]) -> Made<DecoderConfi
 /// Returns whether a configuration of MPEG-4 audio with the bytes `content` is shown with `audio` after its other
 /// fields.
 fn is_audio(alloc: Global, content: &[u8], audio: &str) -> Made<bool> {
-    let text = format!(
-        in alloc;
+    let text = format!(in alloc;
         "\"objectTypeIndication\":64,\"objectTypeIndication_name\":\"MPEG-4 Audio\",\"streamType\":5,\
         \"streamType_name\":\"audio\",\"upStream\":0,\"bufferSizeDB\":6144,\"maxBitrate\":131072,\
         \"avgBitrate\":128000{audio}"
@@ -142,14 +141,13 @@ fn extended_audio(alloc: Global) -> Made<[bool; 5]> {
 /// Returns whether the same bytes are shown without a configuration of audio, for MP3, for a stream of Vorbis, and in a
 /// descriptor with another tag.
 fn other_streams(alloc: Global) -> Made<[bool; 3]> {
-    let rest = "\"streamType\":5,\"streamType_name\":\"audio\",\"upStream\":0,\"bufferSizeDB\":6144,\
+    let rest =
+        "\"streamType\":5,\"streamType_name\":\"audio\",\"upStream\":0,\"bufferSizeDB\":6144,\
         \"maxBitrate\":131072,\"avgBitrate\":128000";
-    let mp3 = format!(
-        in alloc;
+    let mp3 = format!(in alloc;
         "\"objectTypeIndication\":107,\"objectTypeIndication_name\":\"MPEG-1 Audio\",{rest}"
     )?;
-    let vorbis = format!(
-        in alloc;
+    let vorbis = format!(in alloc;
         "\"objectTypeIndication\":221,\"objectTypeIndication_name\":\"Vorbis\",{rest}"
     )?;
     Ok([
@@ -160,8 +158,7 @@ fn other_streams(alloc: Global) -> Made<[bool; 3]> {
             vorbis.as_str(),
         ),
         {
-            let text = format!(
-                in alloc;
+            let text = format!(in alloc;
                 "\"objectTypeIndication\":64,\"objectTypeIndication_name\":\"MPEG-4 Audio\",{rest}"
             )?;
             is_shown(alloc, &config(alloc, 0x40, 7, b"\x11\x90")?, text.as_str())
@@ -234,8 +231,7 @@ const NONE: EsFlags = EsFlags {
 
 /// A configuration of the synchronization layer that isn't predefined, and a byte after it: flags 1 0 1 1 0 0 1 0,
 /// clocks of 90000 and 27000000 Hz, lengths of 33, 42, 32 and 16 bits, of 5, 17 and 9 bits, and reserved bits.
-const LAYER: &[u8] =
-    b"\x00\xB2\x00\x01\x5F\x90\x01\x9B\xFC\xC0\x21\x2A\x20\x10\x58\xA7\x77";
+const LAYER: &[u8] = b"\x00\xB2\x00\x01\x5F\x90\x01\x9B\xFC\xC0\x21\x2A\x20\x10\x58\xA7\x77";
 
 /// Returns whether a box with every part and one with none are shown.
 fn streams(alloc: Global) -> Made<[bool; 2]> {
