@@ -1,0 +1,259 @@
+//! The channel layout box.
+
+ghost use Rattle.mp4_extra_media.specs.ShownLayout.{LayoutNames as SeenNames, after_layout, has_layout, seen_layout};
+ghost use Rattle.mp4_extra_media.specs.ShownLayout.{shown_layout, whole_layout};
+ghost use Rattle.mp4_extra_media.specs.declared.chnl.TheConstants.{CHNL, NAMES, WIDTHS};
+ghost use Rattle.mp4_declared.specs.OwnBox.{layout_of};
+ghost use Rattle.mp4_declared.specs.Layout.{packed, fields_of};
+ghost use Rattle.std.proofs.Common.{refl, lit<};
+ghost use Rattle.mp4_shown.specs.Hands.{Hands};
+ghost use Rattle.std.specs.Prelude.{◌≡◌, ◌==◌, ◌≤◌, OnOk, length};
+
+use mp4_declared::declaring::*;
+use mp4_declared::{Condition, Context};
+use mp4_frame::{Result, u64_at};
+use mp4_shown::{
+    BytesName, FLAGS, FieldSink, HasFields, Meaning, NamedShape, NumberName, ShowShape, VERSION,
+    View, number, put_bytes, put_number, run,
+};
+
+/// The code: `chnl`.
+pub const CHNL: u32 = 0x6368_6e6c;
+
+/// The condition that the version is 0.
+pub struct VersionZero;
+
+impl Condition for VersionZero {
+    ghost holds = { λ c. c.version == 0 };
+
+    fn holds(context: Context) -> bool {
+        context.version == 0
+    }
+}
+
+/// The structure of a sound in version 1.
+#[derive(Clone, Copy, Debug, Default, PartialEq, Eq)]
+pub struct ChannelStructure {
+    /// What the sound consists of: 1 for channels, 2 for objects, 3 for both. 4 bits.
+    pub stream_structure: u8,
+    /// The order of channels and objects. 4 bits.
+    pub format_ordering: u8,
+    /// The number of channels and objects (`baseChannelCount`).
+    pub base_channel_count: u8,
+}
+
+/// The widths of the fields, in bits.
+const WIDTHS: [u8; 3] = [4, 4, 8];
+
+impl EntryLayout<3, 2> for ChannelStructure {
+    ghost use Rattle.mp4_extra_media.specs.contracts.chnl.ChannelStructure.{struct};
+
+    ghost layout = { packed (fields_of WIDTHS) struct.as_values (λ v. struct.make v tt) (λ _. refl) (λ _. refl) refl };
+
+    fn widths() -> [u8; 3] {
+        WIDTHS
+    }
+
+    fn numbers(&self) -> [u64; 3] {
+        numbers_of!(self => stream_structure, format_ordering, base_channel_count)
+    }
+
+    fn from_numbers(n: &[u64; 3]) -> ChannelStructure {
+        entry_of!(n => ChannelStructure { stream_structure: u8, format_ordering: u8, base_channel_count: u8 })
+    }
+
+    ghost few = { lit< tt };
+}
+
+/// The channels of a sound (`chnl`, ISO/IEC 14496-12, 12.2.4).
+#[derive(Debug, Drop, PartialEq, Eq)]
+pub struct Chnl {
+    /// 0, or 1 for the layout of later editions.
+    pub version: u8,
+    /// 24 bits, 0 in the standard.
+    pub flags: u32,
+    /// What the sound consists of: 1 for channels, 2 for objects, 3 for both. `None` in version 1.
+    pub stream_structure: Option<u8>,
+    /// The structure of the sound. `None` in version 0.
+    pub structure: Option<ChannelStructure>,
+    /// The bytes of the layout. If the sound has channels, it begins with the number of a layout of ISO/IEC 23001-8
+    /// (`definedLayout`). In version 0 the 64 bits of the channels that are left out follow (`omittedChannelsMap`), or
+    /// if the number is 0, the position of each channel: a byte, and if that is 126, an azimuth of 16 bits and an
+    /// elevation of 8 bits. If the sound has objects, their number is the last byte (`object_count`).
+    pub layout: Entries<u8>,
+}
+
+/// The content of the box: version, flags, a number in version 0, two bytes of bits since version 1, and bytes up to
+/// its end.
+pub type ChnlShape = Full<
+    2,
+    (
+        If<VersionZero, U8>,
+        If<FromVersion<1>, Bits<ChannelStructure, 3, 2>>,
+        Last<Rest>,
+    ),
+>;
+
+impl DeclaredBox for Chnl {
+    ghost use Rattle.mp4_extra_media.specs.contracts.chnl.Chnl.{struct};
+
+    type Shape = ChnlShape;
+
+    ghost CODE = { CHNL };
+
+    ghost layout = { layout_of struct (λ _. tt) (λ _. refl) (lit< tt) };
+
+    const CODE: u32 = CHNL;
+
+    fn from_content(found: <ChnlShape as Shape>::Value) -> Chnl {
+        box_of!(found => Chnl { version, flags, stream_structure, structure, layout })
+    }
+
+    fn visit<Q: ShapeVisitor<Self::Shape>>(&self, out: &mut [u8]) -> Q::Answer {
+        let parts = parts_of!(self => version, flags, stream_structure, structure, layout.as_slice());
+        Q::visit(parts, out)
+    }
+
+    ghost valid = { refl };
+}
+
+/// The meanings of `stream_structure`.
+const STRUCTURES: &[Meaning] = &[
+    (1, "channels"),
+    (2, "objects"),
+    (3, "channels and objects"),
+];
+
+/// The names of the structure in version 1.
+const STRUCTURE: &[NumberName] = &[
+    number!("stream_structure", Named, STRUCTURES),
+    number!("format_ordering"),
+    number!("baseChannelCount"),
+];
+
+/// Returns whether a sound with this structure in version 0 has a layout.
+fn has_layout(stream_structure: Option<u8>) -> bool
+    ensures { result ≡ has_layout stream_structure }
+{
+    match stream_structure {
+        Some(structure) => structure % 2 == 1,
+        None => false,
+    }
+}
+
+/// The names of the layout, of the channels that it leaves out, and of the bytes after them.
+type LayoutNames = (NumberName, (NumberName, BytesName));
+
+/// Hands the bytes after the number of a layout, which begins `bytes`, to a sink.
+fn put_after<K: FieldSink>(
+    names: LayoutNames,
+    rows: usize,
+    bytes: &[u8],
+    sink: &mut K,
+) -> mp4_shown::Result<()>
+    requires { 1 ≤ length bytes.now }
+    ensures { OnOk result (Hands K.trace K.after sink.old
+        (after_layout (seen_layout names.entry) rows bytes.now) sink.new) }
+{
+    let (_, (omitted, rest)) = names;
+    if bytes[0] == 0 || bytes.len() < 9 {
+        return put_bytes(rest, rows, &bytes[1..], sink);
+    }
+    put_number(omitted, u64_at(bytes, 1), sink)?;
+    put_bytes(rest, rows, &bytes[9..], sink)
+}
+
+/// The layout of channels, and before it whether it has a number, for showing only.
+pub struct ChannelLayout;
+
+impl NamedShape for ChannelLayout {
+    type Value = (bool, Entries<u8>);
+
+    type Names = LayoutNames;
+
+    ghost Seen = { SeenNames };
+
+    ghost seen = { seen_layout };
+
+    ghost shown = { λ names view v. shown_layout names view.rows v };
+
+    ghost whole = { λ names view v. whole_layout names view.rows v };
+}
+
+impl<'a> ShowShape<(bool, &'a [u8])> for ChannelLayout {
+    ghost content = { λ v. (v.0, v.1.now) };
+
+    fn show<K: FieldSink>(
+        names: LayoutNames,
+        view: View,
+        value: (bool, &'a [u8]),
+        sink: &mut K,
+    ) -> mp4_shown::Result<()> {
+        let (is_numbered, bytes) = value;
+        if is_numbered && 0 < bytes.len() {
+            put_number(names.0, u64::from(bytes[0]), sink)?;
+            put_after(names, view.rows, bytes, sink)
+        } else {
+            put_bytes(names.1.1, view.rows, bytes, sink)
+        }
+    }
+}
+
+/// The content of the box, for showing only.
+type ChnlShown = Full<
+    2,
+    (
+        If<VersionZero, U8>,
+        If<FromVersion<1>, Bits<ChannelStructure, 3, 2>>,
+        ChannelLayout,
+    ),
+>;
+
+/// The names of the fields.
+const NAMES: <ChnlShown as NamedShape>::Names = (
+    VERSION,
+    (
+        FLAGS,
+        (
+            number!("stream_structure", Named, STRUCTURES),
+            (
+                STRUCTURE,
+                (
+                    number!("definedLayout"),
+                    (
+                        number!("omittedChannelsMap", Hex(8)),
+                        run!("data_bytes", SomeBytes),
+                    ),
+                ),
+            ),
+        ),
+    ),
+);
+
+impl HasFields for Chnl {
+    ghost shown = { λ view b. ⟦<ChnlShown as NamedShape>⟧.shown NAMES view (
+      b.version,
+      (b.flags, (b.stream_structure, (b.structure, (has_layout b.stream_structure, b.layout)))),
+    ) };
+
+    ghost whole = { λ view b. ⟦<ChnlShown as NamedShape>⟧.whole NAMES view (
+      b.version,
+      (b.flags, (b.stream_structure, (b.structure, (has_layout b.stream_structure, b.layout)))),
+    ) };
+
+    fn show<K: FieldSink>(&self, view: View, sink: &mut K) -> mp4_shown::Result<()> {
+        let layout = (has_layout(self.stream_structure), self.layout.as_slice());
+        let structure = (self.stream_structure, (self.structure, layout));
+        ChnlShown::show(NAMES, view, (self.version, (self.flags, structure)), sink)
+    }
+}
+
+impl TryClone for Chnl {
+    fn try_clone(&self) -> Result<Chnl> {
+        let layout = self.layout.try_clone()?;
+        Ok(Chnl { layout, ..*self })
+    }
+}
+
+/// The channel layout box.
+pub type ChnlBox = Declared<Chnl>;
