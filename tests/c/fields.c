@@ -96,7 +96,7 @@ int main(void) {
     try_box("{\"version\":0,\"flags\":0,\"location\":\"a\\u007f\\u009b\\u202e\xEF\xBF\xBD\"}",
             BYTES("\0\0\0\x15url \0\0\0\0a\x7F\xC2\x9B\xE2\x80\xAE\xFF\0"));
     try_box("{\"data_type\":1,\"data_type_name\":\"text\",\"country\":\"US\",\"language\":\"eng\","
-            "\"text\":\"b\xEF\xBF\xBD\"}",
+            "\"text\":\"b\xEF\xBF\xBD\",\"text_hex\":\"628e\"}",
             BYTES("\0\0\0\x12"
                   "data\0\0\0\1US\x15\xC7"
                   "b\x8E"));

@@ -613,22 +613,19 @@ def compact_fault(fields):
     """Returns why the sizes in the fields of an `stz2` can't be listed, or None if they can (8.7.3.3)."""
     if fields["field_size"] not in (4, 8, 16):
         return "field_size must be 4, 8 or 16"
-    if "data_bytes" in fields and 4 * len(fields["data_bytes"]) < fields["field_size"] * fields["sample_count"]:
+    if "entry_size" not in fields:
         return "sample_count indicates more sizes than could fit in the box"
     return None
 
 
 def sizes_in(name, fields):
     """Returns the number of samples, their one size or 0, and the list of their sizes, in the fields of a box with the
-    name `name`, or None if the sizes of an `stz2` can't be listed. Their bytes are shown if they don't fill the box."""
+    name `name`, or None if the sizes of an `stz2` can't be listed. Only bytes are shown if the box has fewer."""
     if name == "stsz":
         return fields["sample_count"], fields["sample_size"], fields["sample_sizes"]
     if compact_fault(fields):
         return None
-    count, width, digits = fields["sample_count"], fields["field_size"] // 4, fields.get("data_bytes")
-    sizes = fields["entry_size"] if digits is None else [
-        int(digits[at:at + width], 16) for at in range(0, width * count, width)]
-    return count, 0, sizes
+    return fields["sample_count"], 0, fields["entry_size"]
 
 
 def tables_of(table):

@@ -8,6 +8,7 @@ import os
 import re
 
 from tests.built import TOP
+from tools.describe import apart, type_of
 
 # The page with the list of the boxes, and their sources.
 PAGE = "crates/mp4_extra/CALLING.md"
@@ -44,27 +45,6 @@ def codes(source):
 def plain(source):
     """Returns `source` without comments, on one line."""
     return re.sub(r"\s+", " ", re.sub(r"^\s*//.*$", "", source, flags=re.M))
-
-
-def type_of(text):
-    """Returns a type as its name and its arguments. A tuple has an empty name."""
-    text = text.strip()
-    if text.startswith("("):
-        return "", [type_of(it) for it in apart(text[1:-1])]
-    name, _, inside = text.partition("<")
-    return name, [type_of(it) for it in apart(inside[:-1])] if inside else []
-
-
-def apart(text):
-    """Returns the pieces between the commas that aren't inside of brackets. A comma may follow the last piece."""
-    found, depth = [""], 0
-    for letter in text:
-        depth += (letter in "(<[{") - (letter in ")>]}")
-        if letter == "," and depth == 0:
-            found.append("")
-        else:
-            found[-1] += letter
-    return [it.strip() for it in found if it.strip()]
 
 
 class Declared:

@@ -45,9 +45,7 @@ ghost use Rattle.std.proofs.Common.{refl, lit<};
 
 use mp4_declared::declaring::*;
 use mp4_frame::{Result, codes};
-use mp4_shown::{
-    FLAGS, FieldSink, HasFields, NamedShape, ShowShape, VERSION, View, names_of, number, run,
-};
+use mp4_shown::{FieldSink, HasFields, NamedShape, ShowShape, View, names_of, number, run};
 
 /// The padding bits at the end of each sample (`padb`, ISO/IEC 14496-12, 8.7.6).
 #[derive(Debug, Drop, PartialEq, Eq)]
@@ -91,8 +89,8 @@ impl DeclaredBox for Padb {
 
 /// The names of the fields.
 const NAMES: <PadbShape as NamedShape>::Names = names_of!(
-    VERSION,
-    FLAGS,
+    number!("version"),
+    number!("flags", Flags(6)),
     number!("sample_count"),
     run!("pads", Bytes)
 );
