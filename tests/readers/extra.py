@@ -165,11 +165,10 @@ class Content:
         return inner.fields
 
     def entries(self, name, count, entry):
-        """Reads a list of `count` entries up to the end of the box, or of any number of entries if `count` is None. The
-        function `entry` reads each from its front. Returns whether the entries fill the box. Puts nothing if they
-        don't."""
+        """Reads a list of `count` entries. The function `entry` reads each from its front. Returns whether all of them
+        are in the box. Reads nothing if they aren't."""
         found, at = [], self.at
-        while at < len(self.data):
+        for _ in range(count):
             one = Content(self.data[at:])
             try:
                 entry(one)
@@ -177,9 +176,7 @@ class Content:
                 return False
             found.append(one.fields)
             at += one.at
-        if count is not None and len(found) != count:
-            return False
-        self.fields[name] = found
+        self.fields[name], self.at = found, at
         return True
 
     def entry(self, read):
@@ -215,10 +212,12 @@ class Content:
 
 def av1c(c):
     c.bits("1 marker, 7 version, 3 seq_profile, 5 seq_level_idx_0, 1 seq_tier_0, 1 high_bitdepth, 1 twelve_bit,"
-           "1 monochrome, 1 chroma_subsampling_x, 1 chroma_subsampling_y, 2 chroma_sample_position, 3 -,"
+           "1 monochrome, 1 chroma_subsampling_x, 1 chroma_subsampling_y, 2 chroma_sample_position, 3 -reserved=0,"
            "1 initial_presentation_delay_present, 4 initial_presentation_delay_minus_one")
     if not c.raw and not c.fields["initial_presentation_delay_present"]:
-        del c.fields["initial_presentation_delay_minus_one"]
+        reserved = c.fields.pop("initial_presentation_delay_minus_one")
+        if reserved:
+            c.put("reserved_without_delay", reserved)
     c.bytes("configOBUs")
 
 
@@ -268,30 +267,46 @@ TYPES = {0: "binary", 1: "text", 2: "UTF-16 text", 13: "JPEG", 14: "PNG", 21: "s
          23: "32-bit float", 24: "64-bit float", 27: "BMP"}
 
 
+def width_of(number, signed):
+    """Returns the number of bytes, 1, 2, 4 or 8, that are enough for `number`."""
+    bits = max(number, ~number).bit_length() + 1 if signed else number.bit_length()
+    return next(width for width in (1, 2, 4, 8) if bits <= 8 * width)
+
+
 def data(c):
     if c.raw:
         c.numbers("1 type_set, 3 data_type, 2 country, 2 language")
         c.bytes("value")
         return
-    c.numbers("4 data_type")
+    type_set, data_type = c.number(1), c.number(3)
+    if type_set:
+        c.put("type_set", type_set)
+    c.put("data_type", data_type)
+    if type_set == 0:
+        c.named({"data_type": TYPES})
     country, spoken = c.number(2), c.number(2)
     c.locale("country", country, chr(country >> 8) + chr(country & 0xFF))
     c.locale("language", spoken, "".join(chr(0x60 + it) for it in (spoken >> 10, spoken >> 5 & 31, spoken & 31)))
     value = c.rest()
-    if c.fields["data_type"] == 21 and len(value) in (1, 2, 4):
-        c.put("number", int.from_bytes(value, "big", signed=True))
-    elif c.fields["data_type"] == 1:
-        c.put("text", c.as_string(value))
+    if type_set == 0 and data_type == 1:
+        c.put_string("text", value)
+    elif type_set == 0 and data_type in (21, 22) and len(value) in (1, 2, 4, 8):
+        number = int.from_bytes(value, "big", signed=data_type == 21)
+        c.put("number", number)
+        if width_of(number, data_type == 21) != len(value):
+            c.put("number_hex", c.as_bytes(value))
     else:
         c.put("data_bytes", c.as_bytes(value))
-    c.fields["data_type"] = Named(c.fields["data_type"], TYPES.get(c.fields["data_type"], "other"))
 
 
 def substream(s):
-    s.bits("2 fscod, 5 bsid, 1 -, 1 asvc, 3 bsmod, 3 acmod, 1 lfeon, 3 -, 4 num_dep_sub, 1 last")
+    s.bits("2 fscod, 5 bsid, 1 -reserved_before_asvc=0, 1 asvc, 3 bsmod, 3 acmod, 1 lfeon,"
+           "3 -reserved_before_num_dep_sub=0, 4 num_dep_sub, 1 last")
     last = s.fields.pop("last")
     if s.fields["num_dep_sub"]:
         s.fields["chan_loc"] = 256 * last + s.number(1)
+    elif last:
+        s.fields["reserved_after_num_dep_sub"] = last
 
 
 def dec3(c):
@@ -320,8 +335,8 @@ def block(b):
     b.bits("1 LastMetadataBlockFlag, 7 BlockType")
     length = b.count(3, 1, "bytes")
     kind, data = b.fields["BlockType"], Content(b.take(length), raw=b.raw)
+    b.named({"BlockType": BLOCKS})
     if not b.raw:
-        b.fields["BlockType"] = Named(kind, BLOCKS.get(kind, "reserved"))
         b.put("Length", length)
     if kind == 0 and length == 34 and not b.raw:
         data.bits("16 minimum_block_size, 16 maximum_block_size, 24 minimum_frame_size, 24 maximum_frame_size,"
@@ -345,9 +360,11 @@ def dops(c):
         c.bytes("ChannelMapping")
         return
     c.fields["OutputGain"] /= 256
-    if len(c.data) >= c.at + 2:
+    if c.room() >= 2:
         c.numbers("1 StreamCount, 1 CoupledCount")
         c.bytes("ChannelMapping")
+    elif c.room():
+        c.bytes("data_bytes")
 
 
 def elng(c):
@@ -473,8 +490,7 @@ def senc(c):
 
 
 def encryption(d):
-    d.take(1)
-    d.bits("4 crypt_byte_block, 4 skip_byte_block")
+    d.bits("8 -reserved=0, 4 crypt_byte_block, 4 skip_byte_block")
     d.numbers("1 isProtected, 1 Per_Sample_IV_Size")
     d.put("KID", Hex(d.take(16).hex()))
     if d.fields["isProtected"] == 1 and d.fields["Per_Sample_IV_Size"] == 0:
@@ -485,7 +501,7 @@ def encryption(d):
 GROUPS = {
     "roll": lambda d: d.numbers("i2 roll_distance"), "prol": lambda d: d.numbers("i2 roll_distance"),
     "rap ": lambda d: d.bits("1 num_leading_samples_known, 7 num_leading_samples"),
-    "tele": lambda d: d.bits("1 level_independently_decodable, 7 -"), "seig": encryption,
+    "tele": lambda d: d.bits("1 level_independently_decodable, 7 -reserved=0"), "seig": encryption,
 }
 
 
@@ -519,7 +535,7 @@ def sgpd(c):
         c.numbers("4 default_group_description_index")
     c.numbers("4 entry_count")
     kind, length = c.fields["grouping_type"], c.fields.get("default_length")
-    if c.raw or not c.entries("entries", c.fields["entry_count"], lambda d: description(d, kind, length)):
+    if c.raw or not c.entries("entries", c.fields["entry_count"], lambda d: description(d, kind, length)) or c.room():
         c.bytes("data_bytes [entries]")
 
 
@@ -568,12 +584,16 @@ def stz2(c):
     c.reserved(3)
     c.numbers("1 field_size, 4 sample_count")
     bits, count = c.fields["field_size"], c.fields["sample_count"]
-    if not c.raw and bits in (4, 8, 16) and 2 * (len(c.data) - c.at) == (bits * count + 7) // 8 * 2:
-        whole = int.from_bytes(c.data[c.at:] + b"\0", "big")
-        left = 8 * (len(c.data) - c.at + 1)
-        c.fields["entry_size"] = [whole >> left - bits * (n + 1) & 2**bits - 1 for n in range(count)]
-    else:
+    length = (bits * count + 7) // 8
+    if c.raw or bits not in (4, 8, 16) or length > c.room():
         c.bytes("data_bytes [entry_sizes]")
+        return
+    whole, left = int.from_bytes(c.take(length), "big"), 8 * length - bits * count
+    c.fields["entry_size"] = [whole >> left + bits * (count - 1 - n) & 2**bits - 1 for n in range(count)]
+    if whole & 2**left - 1:
+        c.put("padding", whole & 2**left - 1)
+    if c.room():
+        c.bytes("data_bytes")
 
 
 def subs(c):
@@ -611,16 +631,17 @@ def tfra(c):
     version, _ = c.full(2)
     c.numbers("4 track_ID")
     names = ["length_size_of_traf_num", "length_size_of_trun_num", "length_size_of_sample_num"]
-    c.bits("26 -, " + ", ".join(f"2 {name}" for name in names))
+    c.bits("26 -reserved=0, " + ", ".join(f"2 {name}" for name in names))
     c.numbers("4 number_of_entry")
     time = 8 if version else 4
     widths = [time, time] + [c.fields[name] + 1 for name in names]
-    if not c.raw and len(c.data) - c.at == sum(widths) * c.fields["number_of_entry"]:
-        entry = ["time", "moof_offset", "traf_number", "trun_number", "sample_number"]
-        c.rows("entries", c.fields["number_of_entry"],
-               ",".join(f"{width} {name}" for width, name in zip(widths, entry)))
-    else:
+    if c.raw or sum(widths) * c.fields["number_of_entry"] > c.room():
         c.bytes("data_bytes [entries]")
+        return
+    entry = ["time", "moof_offset", "traf_number", "trun_number", "sample_number"]
+    c.rows("entries", c.fields["number_of_entry"], ",".join(f"{width} {name}" for width, name in zip(widths, entry)))
+    if c.room():
+        c.bytes("data_bytes")
 
 
 def reference(r):
@@ -632,10 +653,7 @@ def tref(c):
     found = []
     while c.room():
         found.append(c.sized(reference))
-    # mp4inspect shows an entry for each track, and only the type of a reference to no track.
-    c.put("references", found if c.raw else [
-        {"reference_type": it["reference_type"], **track}
-        for it in found for track in [{"track_ID": number} for number in it["track_IDs"]] or [{}]])
+    c.put("references", found)
 
 
 def wvtt(c):

@@ -1,25 +1,10 @@
-//! The fields of each box of `mp4_extra`.
+//! The fields of each box of `mp4_extra`, by the names that the box declares.
 
 ghost use Rattle.std.specs.Prelude.{OnOk};
 ghost use Rattle.mp4_shown.specs.Members.{HandsMembers};
 
-mod flac;
-mod groups;
-mod samples;
-mod segments;
-mod sound;
-mod tracks;
-mod video;
-
-use flac::put_dfla;
-use groups::put_sgpd;
 use mp4_extra::ExtraBox;
 use mp4_shown::{FieldSink, HasFields, Result};
-use samples::put_stz2;
-use segments::put_tfra;
-use sound::{put_dec3, put_dops};
-use tracks::{put_data_value, put_tref};
-use video::put_av1c;
 
 /// Hands the fields of a box that declares their names to a sink.
 fn put_declared<B: HasFields, K: FieldSink>(fields: &B, sink: &mut K) -> Result<()>
@@ -29,22 +14,21 @@ fn put_declared<B: HasFields, K: FieldSink>(fields: &B, sink: &mut K) -> Result<
 }
 
 /// Hands the fields of a box to a sink, in the order of the box.
-#[tactic(auto, using(mp4_show::proofs::Handed::kept_members))]
 pub fn put_extra<K: FieldSink>(extra: &ExtraBox, sink: &mut K) -> Result<()>
     ensures whole { OnOk result (HandsMembers K.trace K.after sink.old sink.new) }
 {
     match extra {
-        ExtraBox::Av1cBox(b) => put_av1c(b, sink),
+        ExtraBox::Av1cBox(b) => put_declared(b, sink),
         ExtraBox::BtrtBox(b) => put_declared(b, sink),
         ExtraBox::ClapBox(b) => put_declared(b, sink),
         ExtraBox::ClliBox(b) => put_declared(b, sink),
         ExtraBox::ColrBox(b) => put_declared(b, sink),
         ExtraBox::CslgBox(b) => put_declared(b, sink),
         ExtraBox::Dac3Box(b) => put_declared(b, sink),
-        ExtraBox::DataBox(b) => put_data_value(b, sink),
-        ExtraBox::Dec3Box(b) => put_dec3(b, sink),
-        ExtraBox::DflaBox(b) => put_dfla(b, sink),
-        ExtraBox::DopsBox(b) => put_dops(b, sink),
+        ExtraBox::DataBox(b) => put_declared(b, sink),
+        ExtraBox::Dec3Box(b) => put_declared(b, sink),
+        ExtraBox::DflaBox(b) => put_declared(b, sink),
+        ExtraBox::DopsBox(b) => put_declared(b, sink),
         ExtraBox::ElngBox(b) => put_declared(b, sink),
         ExtraBox::FrmaBox(b) => put_declared(b, sink),
         ExtraBox::HvccBox(b) => put_declared(b, sink),
@@ -62,15 +46,15 @@ pub fn put_extra<K: FieldSink>(extra: &ExtraBox, sink: &mut K) -> Result<()>
         ExtraBox::SchmBox(b) => put_declared(b, sink),
         ExtraBox::SdtpBox(b) => put_declared(b, sink),
         ExtraBox::SencBox(b) => put_declared(b, sink),
-        ExtraBox::SgpdBox(b) => put_sgpd(b, sink),
+        ExtraBox::SgpdBox(b) => put_declared(b, sink),
         ExtraBox::SidxBox(b) => put_declared(b, sink),
         ExtraBox::StppBox(b) => put_declared(b, sink),
         ExtraBox::StypBox(b) => put_declared(b, sink),
-        ExtraBox::Stz2Box(b) => put_stz2(b, sink),
+        ExtraBox::Stz2Box(b) => put_declared(b, sink),
         ExtraBox::SubsBox(b) => put_declared(b, sink),
         ExtraBox::TencBox(b) => put_declared(b, sink),
-        ExtraBox::TfraBox(b) => put_tfra(b, sink),
-        ExtraBox::TrefBox(b) => put_tref(b, sink),
+        ExtraBox::TfraBox(b) => put_declared(b, sink),
+        ExtraBox::TrefBox(b) => put_declared(b, sink),
         ExtraBox::WvttBox(b) => put_declared(b, sink),
     }
 }

@@ -2,12 +2,8 @@
 //! standards, as they spell them.
 #![tactic(auto)]
 
-mod entries;
 mod fields;
-mod flag_names;
 mod has_fields;
-mod pieces;
-mod put;
 
 pub use fields::put_extra;
 pub use has_fields::HasFields;
