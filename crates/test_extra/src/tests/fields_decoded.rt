@@ -4,8 +4,8 @@
 use crate::tests::bytes_of;
 use crate::tests::fields::is_shown;
 use mp4_extra::{
-    Av1Config, Av1c, Data, Dec3, Dfla, Dops, Ec3Config, FlacBlockKind, FlacMetadataBlock, Tfra,
-    TfraLengths, TrackReference, Tref,
+    Av1Config, Av1c, Data, Dec3, Dfla, Dops, Ec3Config, ExtraBox, FlacBlockKind, FlacMetadataBlock,
+    Tfra, TfraLengths, TrackReference, Tref, TrefBox,
 };
 use mp4_stream::{Entries, FourCC, Result as Made};
 use std::alloc::Global;
@@ -190,6 +190,21 @@ fn references(rt: HostRuntime) -> Result<(), Fail> {
     let shown = is_shown(
         alloc,
         &tref(alloc)?,
+        "\"references\":[{\"reference_type\":\"cdsc\",\"track_IDs\":[2,3]},\
+        {\"reference_type\":\"hint\",\"track_IDs\":[]}]",
+    );
+    assert_eq!(rt; shown, true);
+    Ok(())
+}
+
+/// An `ExtraBox` shows the fields of the box inside.
+#[test]
+fn any_type(rt: HostRuntime) -> Result<(), Fail> {
+    let alloc = rt.alloc();
+    let any = ExtraBox::TrefBox(TrefBox::new(tref(alloc)?));
+    let shown = is_shown(
+        alloc,
+        &any,
         "\"references\":[{\"reference_type\":\"cdsc\",\"track_IDs\":[2,3]},\
         {\"reference_type\":\"hint\",\"track_IDs\":[]}]",
     );
