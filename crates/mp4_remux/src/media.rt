@@ -28,7 +28,7 @@ pub trait Media: Drop {
     /// A sample is that of a number.
     ghost is_sample: { Self.Teller → ℕ → Sample → Type 0 };
 
-    /// No call has returned `None` or an error so far.
+    /// No call has returned `None` or an error yet.
     ghost is_going: { Self → Type 0 };
 
     /// Returns the next sample, or `None` after the last one. Nothing is said of the calls after `None` or an error.

@@ -94,7 +94,7 @@ impl From<io::Error> for Stop {
 }
 
 /// Returns why the boxes of `track` can't be read.
-pub fn in_track(error: MovieError, track: TrackPlace) -> Stop {
+pub(crate) fn in_track(error: MovieError, track: TrackPlace) -> Stop {
     match error {
         MovieError::Box(error) => Stop::Refused(Refusal::Track { track, error }),
         MovieError::Io(error) => Stop::from(error),
@@ -102,7 +102,7 @@ pub fn in_track(error: MovieError, track: TrackPlace) -> Stop {
 }
 
 /// Returns why the fragments of a file can't be read.
-pub fn in_fragments(error: MovieError) -> Stop {
+pub(crate) fn in_fragments(error: MovieError) -> Stop {
     match error {
         MovieError::Box(error) => Stop::Refused(Refusal::Fragment(error)),
         MovieError::Io(error) => Stop::from(error),
