@@ -30,7 +30,9 @@ import tempfile
 
 from tests.built import TOP
 from tests.files.inspected import files, text_of_tree
-from tests.readers.compared import differences, misplaced, otherwise, outcomes_by_layout, trees_otherwise
+from tests.readers.compared import (
+    differences, fields_otherwise, misplaced, otherwise, outcomes_by_layout, trees_otherwise,
+)
 from tests.readers.inputs import Maker
 from tests.readers.inspect import plain, tree
 from tests.readers.shown import records, texts_of
@@ -38,9 +40,10 @@ from tests.readers.test_containers import lines
 from tests.rows import rows
 
 CHANGES = os.path.join(TOP, "tests", "prover", "wrong-definitions.txt")
-# Two names beside those of the crates: the rows, which the program test_probe reads, and the files of test_inspect,
-# whose trees the program mp4inspect shows.
+# Three names beside those of the crates: the rows, which the program test_probe reads; the rows with the fields of
+# boxes, and the files of test_inspect, which the program mp4inspect shows.
 ROWS = "rows"
+FIELDS = "fields"
 TREES = "trees"
 # The number of inputs of test_differential that are read with the rows, and the number of bytes that are read at once.
 # The text of a longer row may be longer than the output that a run without proof keeps.
@@ -275,6 +278,21 @@ class Copy:
             failed[f"places: {elsewhere} of {len(chosen) + count} buffers"] = True
         return list(failed)
 
+    def failed_fields(self, changes):
+        """Returns the names of the tests with a row whose fields are shown otherwise, among those named by `changes`,
+        or among all."""
+        named = [(f"{FIELDS}::{name}", row) for name, row in rows() if row.fields is not None]
+        chosen = [it for it in named if any(change.caught_by([it[0]]) for change in changes)] or named
+        found = self.outputs("mp4_inspect", [row.buffer for _, row in chosen], "--", "--json", "-")
+        if found is None:
+            return [f"{FIELDS}: the program stops at a fault"]
+        failed = {}
+        for (name, row), out in zip(chosen, found):
+            wanted, other = fields_otherwise(row, out.decode("utf-8"))
+            if wanted != other:
+                failed[name] = True
+        return list(failed)
+
     def failed_trees(self):
         """Returns the names of the files of test_inspect.py and of the lines of tests/containers.txt whose tree
         differs."""
@@ -297,6 +315,8 @@ class Copy:
         if crate == ROWS:
             chosen = rows_for(changes)
             return self.failed_rows(chosen or all_rows(), 0 if chosen else INPUTS)
+        if crate == FIELDS:
+            return self.failed_fields(changes)
         if crate == TREES:
             return self.failed_trees()
         ran = self.rt(crate, "try", "--test")

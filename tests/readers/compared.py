@@ -1,6 +1,8 @@
 """Compares the output of the program test_probe for an input with what a row expects, and with what the slow reader
 finds."""
 
+import json
+import re
 from functools import partial
 
 from tests.readers.extra import Fields
@@ -43,12 +45,20 @@ def differences(row, texts):
     """Yields each difference between `texts`, which the program printed, and what `row` expects: words, the expected
     value, and the value found."""
     counted = None if row.headers is None else (row.box, row.headers)
-    for words, expected, read, text in zip(LOOKED_AT, [*row[2:-2], counted], TEXTS, texts):
+    for words, expected, read, text in zip(LOOKED_AT, [*row[2:-3], counted], TEXTS, texts):
         found = parsed(read, text) if expected is not None else None
         if found != expected:
             yield words, expected, found
     if row.places is not None and texts[PLACES] != text_of_places(*row.places):
         yield "places by hand", row.places, texts[PLACES]
+
+
+def fields_otherwise(row, printed):
+    """Returns the fields that `row` expects, and those that `mp4inspect --json` printed of the box, both as JSON."""
+    found = re.fullmatch(r'\[\{"file":"-","boxes":\[\{"type":.{4,24}?,"position":0,.*?"fields":(.*)\}\]\}\]\s*',
+                         printed, re.S)
+    wanted = json.dumps(row.fields, ensure_ascii=False, separators=(",", ":"))
+    return wanted, found[1] if found else printed
 
 
 def outcome_by_layout(read, buffer, position):

@@ -2,7 +2,9 @@
 version, so that all times are negative: 2^32 - 0x7b7a7979 is 0x84858687. In the other rows the first bytes count up
 from 0x01."""
 
-from tests.rows.making import WRONG_VERSION, Box, box, changed, counting, declared, declared_as, resized, u32, u64
+from tests.rows.making import (
+    WRONG_VERSION, Box, box, changed, counting, declared, declared_as, fields, full, resized, u32, u64,
+)
 
 NAMES = [
     "composition_to_dts_shift", "least_decode_to_display_delta", "greatest_decode_to_display_delta",
@@ -46,3 +48,19 @@ def a_size_that_is_smaller_than_the_times():
 def other_versions():
     for version in (2, 0x81, 0xFF):
         yield declared(changed(LONG, {8: version}), WRONG_VERSION)
+
+
+def fields_of_composition_times():
+    """ISO/IEC 14496-12, 8.6.1.4."""
+    short = u32(11, 2**32 - 12, 13, 2**31, 2**31 - 1)
+    yield fields(
+        full(b"cslg", short, version=0, flags=0x010203),
+        version=0, flags=66051, compositionToDTSShift=11, leastDecodeToDisplayDelta=-12,
+        greatestDecodeToDisplayDelta=13, compositionStartTime=-2147483648, compositionEndTime=2147483647,
+    )
+    long = u64(2**64 - 0x1_0000000B, 12, 0x1_0000000D, 2**64 - 14, 2**63 - 1)
+    yield fields(
+        full(b"cslg", long, version=1, flags=0x010203),
+        version=1, flags=66051, compositionToDTSShift=-4294967307, leastDecodeToDisplayDelta=12,
+        greatestDecodeToDisplayDelta=4294967309, compositionStartTime=-14, compositionEndTime=9223372036854775807,
+    )

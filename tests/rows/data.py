@@ -2,7 +2,8 @@
 bytes count up from 0x81."""
 
 from tests.rows.making import (
-    END, TOO_SMALL, Box, box, counting, declared_as, filled, invalid, listed, one, resized, round_trip, u32, written_as,
+    END, TOO_SMALL, Box, box, counting, declared_as, fields, filled, invalid, listed, one, resized, round_trip, u8, u16,
+    u24, u32, written_as,
 )
 from tests.rows.values import DATA, data
 
@@ -74,3 +75,27 @@ def declared_of_any_type():
     fields = {"type_set": 0x81, "data_type": 0x828384, "country": 0x8586, "language": 0x8788}
     for value in (counting(0x89, 0x8B), b""):
         yield from declared_as(box(b"data", counting(0x81, 0x88), value), Box("data", **fields, value=list(value)))
+
+
+def fields_of_texts():
+    """QuickTime File Format, "Value atom"."""
+    # Has the letters of `eng` as 00101 01110 00111, which is 0x15c7.
+    yield fields(box(b"data", u8(0), u24(1), b"US", u16(0x15C7), b"\xc3\xa9"), data_type=1, data_type_name="text",
+                 country="US", language="eng", text="é")
+    yield fields(box(b"data", u8(0), u24(1), u16(3, 255), b"a\xff"), data_type=1, data_type_name="text", country=3,
+                 language=255, text="a\ufffd", text_hex="61ff")
+    yield fields(box(b"data", u8(0), u24(13), u16(0, 0), b"\xff\xd8"), data_type=13, data_type_name="JPEG",
+                 data_bytes="ffd8")
+
+
+def fields_of_numbers():
+    """QuickTime File Format, "Value atom"."""
+    yield fields(box(b"data", u8(0), u24(21), u16(0, 0), b"\xff\x38"), data_type=21, data_type_name="signed integer",
+                 number=-200)
+    yield fields(box(b"data", u8(0), u24(21), u16(0, 0), b"\x00\x07"), data_type=21, data_type_name="signed integer",
+                 number=7, number_hex="0007")
+    yield fields(box(b"data", u8(0), u24(22), u16(0, 0), b"\x80\x00\x00\x01"), data_type=22,
+                 data_type_name="unsigned integer", number=2147483649)
+    yield fields(box(b"data", u8(4), u24(21), u16(0, 0), b"\x05"), type_set=4, data_type=21, data_bytes="05")
+    yield fields(box(b"data", u8(0), u24(21), u16(0, 0), b"\x01\x02\x03"), data_type=21,
+                 data_type_name="signed integer", data_bytes="010203")

@@ -2,7 +2,8 @@
 version, lengths, and the front bytes of the blocks, which are 0 1000100, 0 0101011 and 1 0110100."""
 
 from tests.rows.making import (
-    END, NO_VERSION_1, NOT_FILLED, TOO_MANY_BYTES, Box, box, changed, counting, declared, declared_as, resized, u24,
+    END, NO_VERSION_1, NOT_FILLED, TOO_MANY_BYTES, Box, box, changed, counting, declared, declared_as, fields, full,
+    resized, u8, u16, u24,
 )
 
 FRONT = b"\0\x81\x82\x83"
@@ -81,3 +82,23 @@ def many_blocks():
     blocks = [(number % 128, u24(number)) for number in range(1000)]
     whole = box(b"dfLa", FRONT, b"".join(bytes([kind]) + u24(3) + data for kind, data in blocks))
     yield declared(whole, dfla([block(False, kind, data) for kind, data in blocks]), whole)
+
+
+def fields_of_blocks():
+    """Encapsulation of FLAC in ISO Base Media File Format, 3.3.2, and RFC 9639, 8.2."""
+    # Has, after the sizes, 20 bits of the rate, 010 10111 for 3 channels of 24 bits, and 36 bits of the samples.
+    stream_info = u16(4096, 4608) + u24(14) + u24(9029) + b"\x0a\xc4\x45\x78\x12\x34\x56\x78" + counting(0x81, 0x90)
+    blocks = u8(0) + u24(34) + stream_info, u8(0) + u24(2) + b"\x0c\x0d", u8(0x89) + u24(1) + b"\x0e"
+    yield fields(full(b"dfLa", *blocks, flags=11), version=0, flags=11, metadata_blocks=[
+        {
+            "LastMetadataBlockFlag": 0, "BlockType": 0, "BlockType_name": "STREAMINFO", "Length": 34,
+            "minimum_block_size": 4096, "maximum_block_size": 4608, "minimum_frame_size": 14,
+            "maximum_frame_size": 9029, "sample_rate": 44100, "channels": 3, "bits_per_sample": 24,
+            "total_samples": 34665158264, "MD5": "8182838485868788898a8b8c8d8e8f90",
+        },
+        {
+            "LastMetadataBlockFlag": 0, "BlockType": 0, "BlockType_name": "STREAMINFO", "Length": 2,
+            "BlockData": "0c0d",
+        },
+        {"LastMetadataBlockFlag": 1, "BlockType": 9, "Length": 1, "BlockData": "0e"},
+    ])

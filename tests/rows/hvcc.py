@@ -7,7 +7,8 @@ The bits after the first byte are 10 1 00011, those of five and six bytes, 10001
 from tests.rows.entry_sizes import value_from
 from tests.rows.entry_values import HVCC, HVCC_VALUE
 from tests.rows.making import (
-    END, TOO_MANY_BYTES, Box, box, changed, counting, cuts, declared, declared_as, resized, round_trip, u16,
+    END, TOO_MANY_BYTES, Box, box, changed, counting, cuts, declared, declared_as, fields, resized, round_trip, u8,
+    u16, u32,
 )
 
 FRONT = b"\x81\xa3" + counting(0x82, 0x8C) + b"\x9a\xbc\xb6\xc9\x9d\x5e\x8d\x8e\x6b"
@@ -92,3 +93,24 @@ def counts_that_are_too_large():
 def sizes_that_are_too_small():
     yield declared(resized(THREE, len(THREE) - 1), TOO_MANY_BYTES)
     yield declared(resized(THREE, len(THREE) + 1), hvcc(ARRAYS), THREE)
+
+
+def fields_of_bits_and_arrays():
+    """ISO/IEC 14496-15, 8.3.3.1: one group of reserved bits isn't all set."""
+    # Writes the bits 00 1 00010 at the front of the profile, 1111 000000000101, 111111 11, 111111 01, 11111 010 and
+    # 11110 010 as format, 01 011 1 11 as rate, and 1 0 100001 and 1 0 101001 at the fronts of the arrays.
+    profile = u8(0x22) + u32(0x20000000) + b"\x90\0\0\0\0\1" + u8(93)
+    formats = b"\xf0\x05\xff\xfd\xfa\xf2"
+    arrays = u8(0xA1) + u16(1, 2) + b"\x42\x01" + u8(0xA9) + u16(1, 0)
+    yield fields(
+        box(b"hvcC", u8(1), profile, formats, u16(6400), u8(0x5F, 2), arrays), configurationVersion=1,
+        general_profile_space=0, general_tier_flag=1, general_profile_idc=2,
+        general_profile_compatibility_flags=536870912, general_constraint_indicator_flags="900000000001",
+        general_level_idc=93, min_spatial_segmentation_idc=5, parallelismType=3, chroma_format_idc=1,
+        bit_depth_luma_minus8=2, reserved_before_chroma=30, bit_depth_chroma_minus8=2, avgFrameRate=6400,
+        constantFrameRate=1, numTemporalLayers=3, temporalIdNested=1, lengthSizeMinusOne=3,
+        arrays=[
+            {"array_completeness": 1, "NAL_unit_type": 33, "NAL_unit_type_name": "SPS", "nalUnit": ["4201"]},
+            {"array_completeness": 1, "NAL_unit_type": 41, "nalUnit": [""]},
+        ],
+    )

@@ -2,7 +2,7 @@
 from 0x81."""
 
 from tests.rows.making import (
-    END, NO_VERSION_1, WRONG_SIZE, Box, changed, counting, declared, declared_as, full, resized, u32,
+    END, NO_VERSION_1, WRONG_SIZE, Box, changed, counting, declared, declared_as, fields, full, resized, u32,
 )
 
 # The keys begin at 16, 29 and 37, each with its size, and the box ends at 46.
@@ -86,3 +86,25 @@ def sizes_of_the_box():
     for count, size in ((0, 16), (1, 29), (2, 37)):
         whole = resized(changed(THREE, {15: count}), size)
         yield declared(whole, keys(*KEYS[:count]), whole[:size])
+
+
+def fields_of_keys():
+    """QuickTime File Format, "Metadata item keys atom". The name of the second key isn't UTF-8."""
+    yield fields(
+        full(
+            b"keys",
+            u32(3),
+            u32(32) + b"mdta" + b"com.apple.quicktime.make",
+            u32(12) + b"udta" + b"\xa9nam",
+            u32(12) + b"test" + b"cl\xc3\xa9",
+            flags=0x01_0203,
+        ),
+        version=0,
+        flags=66051,
+        entry_count=3,
+        entries=[
+            {"Key_namespace": "mdta", "Key_value": "com.apple.quicktime.make"},
+            {"Key_namespace": "udta", "Key_value": "\ufffdnam", "Key_value_hex": "a96e616d"},
+            {"Key_namespace": "test", "Key_value": "cl\u00e9"},
+        ],
+    )

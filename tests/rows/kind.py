@@ -2,7 +2,7 @@
 0x81, after the version."""
 
 from tests.rows.making import (
-    END, NO_END, NO_VERSION_1, Box, box, changed, counting, declared, declared_as, resized,
+    END, NO_END, NO_VERSION_1, Box, box, changed, counting, declared, declared_as, fields, full, resized,
 )
 
 # A string of three bytes, and one of two.
@@ -45,3 +45,24 @@ def strings_without_an_end():
 
 def version_1():
     yield declared(changed(KIND, {8: 1}), NO_VERSION_1)
+
+
+def fields_of_kinds():
+    """ISO/IEC 14496-12, 8.10.4."""
+    yield fields(
+        full(b"kind", b"urn:mpeg:dash:role:2011\0", b"main\0", flags=0x01_0203),
+        version=0,
+        flags=66051,
+        schemeURI="urn:mpeg:dash:role:2011",
+        value="main",
+    )
+    # Take bytes that aren't UTF-8.
+    yield fields(
+        full(b"kind", b"u\xc3\0", b"\xfev\0", flags=0x01_0203),
+        version=0,
+        flags=66051,
+        schemeURI="u\ufffd",
+        schemeURI_hex="75c3",
+        value="\ufffdv",
+        value_hex="fe76",
+    )

@@ -19,8 +19,10 @@ NO_DREF = ("NotFound", "dref")
 # - `trees`: the bytes that the list is written in if it is read as trees.
 # - `headers`: the number of headers of descriptors that are read.
 # - `places`: the places of the boxes, with the position of the cursor.
-FIELDS = "buffer at box boxes written kept_box kept_boxes kept_written declared declared_written trees headers places"
-Row = collections.namedtuple("Row", FIELDS, defaults=[0, *[None] * 11])
+# - `fields`: the fields of the one box in JSON, by their names in the standard and in its order.
+FIELDS = """buffer at box boxes written kept_box kept_boxes kept_written declared declared_written trees headers places
+    fields"""
+Row = collections.namedtuple("Row", FIELDS, defaults=[0, *[None] * 12])
 
 
 class Box(dict):
@@ -152,6 +154,12 @@ def declared_as(buffer, value):
     yield declared(buffer, value, buffer)
     for length in range(8, len(buffer)):
         yield declared(buffer[:length], END)
+
+
+def fields(buffer, **of_box):
+    """Expects that the fields `of_box`, in this order, are shown of the box of `buffer`. A name that Python has for
+    itself or can't write stands in a dictionary: `**{"class": 1}`."""
+    return Row(buffer, fields=of_box)
 
 
 def count_and_bytes(code, count, rest):

@@ -2,7 +2,7 @@
 from 0x81, after the version and between the counts."""
 
 from tests.rows.making import (
-    END, TOO_MANY_BYTES, TOO_MANY_ENTRIES, Box, box, counting, declared, declared_as, resized, u32,
+    END, TOO_MANY_BYTES, TOO_MANY_ENTRIES, Box, box, counting, declared, declared_as, fields, full, resized, u32,
 )
 
 SYSTEM = counting(0x84, 0x93)
@@ -36,3 +36,16 @@ def sizes_that_are_too_small():
     yield declared(resized(TWO_KEYS, 63), TOO_MANY_ENTRIES)
     yield declared(resized(TWO_KEYS, 68), TOO_MANY_BYTES)
     yield declared(resized(TWO_KEYS[:31], 69), END)
+
+
+def fields_of_systems():
+    """ISO/IEC 23001-7, 8.1."""
+    system = counting(0x21, 0x30)
+    data = u32(3) + b"\xb1\xb2\xb3"
+    shown = {"flags": 66051, "SystemID": "2122232425262728292a2b2c2d2e2f30"}
+    yield fields(full(b"pssh", system, data, flags=0x01_0203), version=0, **shown, Data="b1b2b3")
+    no_key = full(b"pssh", system, u32(0), data, version=1, flags=0x01_0203)
+    yield fields(no_key, version=1, **shown, KID=[], Data="b1b2b3")
+    keys = 16 * b"\x31" + 16 * b"\x32" + 16 * b"\x33"
+    three_keys = full(b"pssh", system, u32(3), keys, data, version=1, flags=0x01_0203)
+    yield fields(three_keys, version=1, **shown, KID=[16 * "31", 16 * "32", 16 * "33"], Data="b1b2b3")

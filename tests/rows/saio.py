@@ -2,7 +2,8 @@
 bytes of the fields count up from 0x81, after the version and around the count."""
 
 from tests.rows.making import (
-    TOO_MANY_ENTRIES, WRONG_VERSION, Box, box, changed, counting, declared, declared_as, one_row_short, u32,
+    TOO_MANY_ENTRIES, WRONG_VERSION, Box, box, changed, counting, declared, declared_as, fields, full, one_row_short,
+    u32, u64,
 )
 
 SHORT = box(b"saio", b"\0\x80\x82\x83", counting(0x84, 0x8B), u32(3), counting(0x8C, 0x97))
@@ -33,3 +34,19 @@ def one_offset_short():
 
 def another_version():
     yield declared(changed(LONG, {8: 2}), WRONG_VERSION)
+
+
+def fields_of_offsets():
+    """ISO/IEC 14496-12, 8.7.9."""
+    yield fields(
+        full(b"saio", u32(3), u32(11, 12, 2**32 - 1), version=0, flags=0x010202),
+        version=0, flags=66050, offset=[11, 12, 4294967295],
+    )
+    yield fields(
+        full(b"saio", u32(3), u64(11, 12, 2**64 - 1), version=1, flags=0x010202),
+        version=1, flags=66050, offset=[11, 12, 18446744073709551615],
+    )
+    yield fields(
+        full(b"saio", b"cenc", u32(13), u32(1), u32(14), version=0, flags=1),
+        version=0, flags=1, aux_info_type="cenc", aux_info_type_parameter=13, offset=[14],
+    )

@@ -2,7 +2,7 @@
 0x81, after the version and around the count."""
 
 from tests.rows.making import (
-    TOO_MANY_ENTRIES, Box, box, counting, declared, declared_as, one_row_short, resized, u32,
+    TOO_MANY_ENTRIES, Box, box, counting, declared, declared_as, fields, full, one_row_short, resized, u32,
 )
 
 SHORT = box(b"sbgp", b"\0", counting(0x81, 0x87), u32(3), counting(0x8C, 0xA3))
@@ -30,3 +30,21 @@ def version_1_has_a_parameter():
 def one_run_short():
     yield declared(resized(LONG, 47), TOO_MANY_ENTRIES)
     yield from one_row_short(SHORT, sbgp(0, None), 8, TOO_MANY_ENTRIES, declared)
+
+
+def fields_of_groups():
+    """ISO/IEC 14496-12, 8.9.2."""
+    runs = u32(3, 11, 12, 2**32 - 1, 22, 31, 0x10001)
+    entries = [
+        {"sample_count": 11, "group_description_index": 12},
+        {"sample_count": 4294967295, "group_description_index": 22},
+        {"sample_count": 31, "group_description_index": 65537},
+    ]
+    yield fields(
+        full(b"sbgp", b"roll", runs, version=0, flags=0x010203),
+        version=0, flags=66051, grouping_type="roll", entries=entries,
+    )
+    yield fields(
+        full(b"sbgp", b"roll", u32(7), runs, version=1, flags=0x010203),
+        version=1, flags=66051, grouping_type="roll", grouping_type_parameter=7, entries=entries,
+    )

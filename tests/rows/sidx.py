@@ -3,8 +3,8 @@ high bits are flags. The first reference is to another index, the second to medi
 third to neither."""
 
 from tests.rows.making import (
-    END, TOO_MANY_ENTRIES, WRONG_VERSION, Box, box, changed, counting, declared, declared_as, one_row_short, resized,
-    u16,
+    END, TOO_MANY_ENTRIES, WRONG_VERSION, Box, box, changed, counting, declared, declared_as, fields, full,
+    one_row_short, resized, u16, u32, u64,
 )
 
 NAMES = "reference_type referenced_size subsegment_duration starts_with_sap sap_type sap_delta_time".split()
@@ -105,3 +105,31 @@ def a_size_that_is_smaller_than_the_fields():
 def a_count_of_more():
     for count, size, expected in [(4, 68, TOO_MANY_ENTRIES), (4, 80, END), (0xFF04, 80, TOO_MANY_ENTRIES)]:
         yield declared(resized(SHORT[:30] + u16(count) + SHORT[32:], size), expected)
+
+
+def fields_of_indexes_of_segments():
+    """ISO/IEC 14496-12, 8.16.3."""
+    # The highest bit of the first and of the third number is a flag. The three bits after that of the third are a type.
+    rows = u32(
+        0x80000000 + 21, 22, 0x30000000 + 24,
+        0x7FFFFFFF, 32, 0xCFFFFFFF,
+        41, 0xFFFFFFFF, 0xD0000000 + 44,
+    )
+    references = [
+        {"reference_type": 1, "referenced_size": 21, "subsegment_duration": 22,
+         "starts_with_SAP": 0, "SAP_type": 3, "SAP_delta_time": 24},
+        {"reference_type": 0, "referenced_size": 2147483647, "subsegment_duration": 32,
+         "starts_with_SAP": 1, "SAP_type": 4, "SAP_delta_time": 268435455},
+        {"reference_type": 0, "referenced_size": 41, "subsegment_duration": 4294967295,
+         "starts_with_SAP": 1, "SAP_type": 5, "SAP_delta_time": 44},
+    ]
+    yield fields(
+        full(b"sidx", u32(11, 12), u32(13, 14), u16(0, 3), rows, version=0, flags=0x010203),
+        version=0, flags=66051, reference_ID=11, timescale=12, earliest_presentation_time=13, first_offset=14,
+        references=references,
+    )
+    yield fields(
+        full(b"sidx", u32(11, 12), u64(0x1_0000000D, 2**64 - 1), u16(0, 3), rows, version=1, flags=0x010203),
+        version=1, flags=66051, reference_ID=11, timescale=12, earliest_presentation_time=4294967309,
+        first_offset=18446744073709551615, references=references,
+    )

@@ -1,7 +1,9 @@
 """`stpp`, the sample entry of subtitles in XML: reserved bytes, a number, three strings, each of which a byte of 0
 ends, and boxes, which are kept as bytes. The bytes of the fields count up from 0x81."""
 
-from tests.rows.making import END, NO_END, Box, box, changed, counting, declared, declared_as, resized, u32
+from tests.rows.making import (
+    END, NO_END, Box, box, changed, counting, declared, declared_as, fields, resized, u16, u32,
+)
 
 # A string of three bytes, one of two and one of one, and three bytes after them.
 FRONT = bytes(6) + counting(0x81, 0x82)
@@ -58,3 +60,17 @@ def strings_without_an_end():
 def bytes_after_the_box_are_left_out():
     yield declared(resized(STPP, 25), stpp(b"\x83\x84\x85", b"\x86\x87", b"\x88", b""), resized(STPP[:25], 25))
     yield declared(resized(STPP, 27), stpp(b"\x83\x84\x85", b"\x86\x87", b"\x88", b"\x89\x8a"), resized(STPP[:27], 27))
+
+
+def fields_of_strings():
+    """ISO/IEC 14496-12, 12.6.3: a text that is UTF-8, and one that isn't."""
+    # Leaves the second string empty. The two bytes after `urn:` are U+00E9.
+    rest = b"\0\0image/png\0"
+    yield fields(
+        box(b"stpp", bytes(6), u16(1), b"urn:\xc3\xa9", rest), data_reference_index=1, namespace="urn:\u00e9",
+        schema_location="", auxiliary_mime_types="image/png",
+    )
+    yield fields(
+        box(b"stpp", bytes(6), u16(1), b"a\xff", rest), data_reference_index=1, namespace="a\ufffd",
+        namespace_hex="61ff", schema_location="", auxiliary_mime_types="image/png",
+    )

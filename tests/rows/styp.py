@@ -1,6 +1,6 @@
 """`styp`, the brands of a segment, up to its end. The bytes of the fields count up from 0x81."""
 
-from tests.rows.making import NOT_FILLED, Box, box, counting, declared, declared_as, resized
+from tests.rows.making import NOT_FILLED, Box, box, counting, declared, declared_as, fields, resized, u32
 
 STYP = box(b"styp", counting(0x81, 0x94))
 
@@ -13,3 +13,15 @@ def brands_up_to_the_end():
 
 def a_size_that_ends_inside_a_brand():
     yield declared(resized(STYP, 27), NOT_FILLED)
+
+
+def fields_of_types_of_segments():
+    """ISO/IEC 14496-12, 8.16.2 and 4.3."""
+    yield fields(
+        box(b"styp", b"dash", u32(7), b"iso6", b"msdh", b"msix"),
+        major_brand="dash", minor_version=7, compatible_brands=["iso6", "msdh", "msix"],
+    )
+    yield fields(
+        box(b"styp", b"M4A ", u32(8), b"\xa9x\"\0"),
+        major_brand="M4A ", minor_version=8, compatible_brands=["©x\"\0"],
+    )

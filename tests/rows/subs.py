@@ -2,7 +2,8 @@
 up from 0x81, except the version and the counts."""
 
 from tests.rows.making import (
-    END, TOO_MANY_ENTRIES, WRONG_VERSION, Box, box, changed, counting, declared, declared_as, resized, u16, u32,
+    END, TOO_MANY_ENTRIES, WRONG_VERSION, Box, box, changed, counting, declared, declared_as, fields, full, resized, u8,
+    u16, u32,
 )
 
 FLAGS = b"\x81\x82\x83"
@@ -116,3 +117,36 @@ def many_entries():
     rows = b"".join(u16(part[0]) + bytes(part[1:3]) + u32(part[3]) for part in parts)
     whole = box(b"subs", b"\0", FLAGS, u32(1, 9), u16(1000), rows)
     yield declared(whole, subs(0, [sample(9, *parts)]), whole)
+
+
+def fields_of_parts_of_samples():
+    """ISO/IEC 14496-12, 8.7.7."""
+    yield fields(
+        full(
+            b"subs", u32(3),
+            u32(11), u16(3),
+            u16(20), u8(21, 22), u32(23), u16(24), u8(25, 26), u32(27), u16(28), u8(29, 30), u32(31),
+            u32(12), u16(0),
+            u32(13), u16(1), u16(32), u8(33, 34), u32(35),
+            version=0, flags=0x010203,
+        ),
+        version=0, flags=66051, entry_count=3,
+        entries=[
+            sample(11, (20, 21, 22, 23), (24, 25, 26, 27), (28, 29, 30, 31)), sample(12), sample(13, (32, 33, 34, 35)),
+        ],
+    )
+    yield fields(
+        full(
+            b"subs", u32(3),
+            u32(11), u16(3),
+            u32(0x10000), u8(21, 22), u32(23), u32(24), u8(25, 26), u32(27), u32(28), u8(29, 30), u32(31),
+            u32(12), u16(0),
+            u32(13), u16(1), u32(32), u8(33, 34), u32(35),
+            version=1, flags=0x010203,
+        ),
+        version=1, flags=66051, entry_count=3,
+        entries=[
+            sample(11, (65536, 21, 22, 23), (24, 25, 26, 27), (28, 29, 30, 31)), sample(12),
+            sample(13, (32, 33, 34, 35)),
+        ],
+    )

@@ -1,7 +1,7 @@
 """`tenc`, how samples are encrypted: a pattern only in version 1, and at the end a vector for all samples or none. The
 bytes of the fields count up from 0x81, after the version and between reserved bytes."""
 
-from tests.rows.making import Box, box, changed, counting, declared, declared_as
+from tests.rows.making import Box, box, changed, counting, declared, declared_as, fields, full, u8
 
 SHORT = box(b"tenc", b"\0\x81\x82\x83\0\0", counting(0x85, 0x96))
 LONG = box(b"tenc", b"\1\x81\x82\x83\0", counting(0x84, 0x96), b"\x03\x97\x98\x99")
@@ -24,3 +24,24 @@ def reserved_bytes_are_left_out():
 def version_1_has_a_pattern():
     pattern = {"default_crypt_byte_block": 8, "default_skip_byte_block": 4}
     yield from declared_as(LONG, tenc(1, pattern, b"\x03\x97\x98\x99"))
+
+
+def fields_of_the_encryption_of_tracks():
+    """ISO/IEC 23001-7, 8.2."""
+    numbers = u8(3, 8) + counting(0x11, 0x20)
+    shown = {
+        "default_isProtected": 3,
+        "default_Per_Sample_IV_Size": 8,
+        "default_KID": "1112131415161718191a1b1c1d1e1f20",
+    }
+    yield fields(full(b"tenc", u8(0, 0), numbers, flags=0x01_0203), version=0, flags=66051, **shown)
+    yield fields(
+        full(b"tenc", u8(0, 0x29), numbers, u8(4), b"\xa1\xa2\xa3\xa4", version=1, flags=0x01_0203),
+        version=1,
+        flags=66051,
+        default_crypt_byte_block=2,
+        default_skip_byte_block=9,
+        **shown,
+        default_constant_IV_size=4,
+        default_constant_IV="a1a2a3a4",
+    )

@@ -7,12 +7,16 @@ its module and its own. The program test_probe reads the rows of a test in one r
 
 These are compared with the slow reader, even if a row doesn't have them: the places of the boxes, the structure of the
 list's trees, and the written bytes of the trees. Values are compared whole, and faults by their kind and text. The
-cursor's position after the call is compared too."""
+cursor's position after the call is compared too.
 
+Some rows have the fields of a box, with their names and their order as in the syntax of the standards. These are
+compared with what `mp4inspect --json` prints of the box."""
+
+import subprocess
 import unittest
 
 from tests.built import built
-from tests.readers.compared import differences, misplaced, trees_otherwise
+from tests.readers.compared import differences, fields_otherwise, misplaced, trees_otherwise
 from tests.readers.shown import shown
 from tests.rows import tests
 
@@ -36,6 +40,12 @@ class Rows(unittest.TestCase):
             for words, expected, other in [*differences(row, texts), *others]:
                 told.append(f"{words} at {row.at} of {said(row.buffer)}\n"
                             f"  expected: {said(expected)}\n  found:    {said(other)}")
+            if row.fields is not None:
+                words = [built("mp4_inspect"), "--json", "-"]
+                printed = subprocess.run(words, input=row.buffer, stdout=subprocess.PIPE, check=True).stdout
+                expected, other = fields_otherwise(row, printed.decode("utf-8"))
+                if other != expected:
+                    told.append(f"fields of {said(row.buffer)}\n  expected: {expected}\n  found:    {other}")
         if told:
             self.fail("\n".join([f"{len(told)} differences in {len(found)} rows", *told]))
 

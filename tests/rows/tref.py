@@ -1,7 +1,9 @@
 """`tref`, the tracks to which a track refers: references of three types, to three tracks, to none and to one. The bytes
 of the tracks' numbers count up from 0x81."""
 
-from tests.rows.making import END, NOT_FILLED, WRONG_SIZE, Box, box, changed, declared, declared_as, resized, u32
+from tests.rows.making import (
+    END, NOT_FILLED, WRONG_SIZE, Box, box, changed, declared, declared_as, fields, resized, u32,
+)
 
 # The references begin at 8, 28 and 36, each with its size, and the box ends at 48.
 CHAPTERS = u32(20) + b"chap" + u32(0x81828384, 0x85868788, 0x898A8B8C)
@@ -81,3 +83,10 @@ def sizes_of_the_box():
     for size in (49, 52, 56):
         yield declared(resized(TREF, size), END)
     yield declared(resized(TREF + bytes(4), 52), WRONG_SIZE)
+
+
+def fields_of_references():
+    """ISO/IEC 14496-12, 8.3.3."""
+    yield fields(box(b"tref", u32(16), b"cdsc", u32(2, 3), u32(8), b"hint"), references=[
+        {"reference_type": "cdsc", "track_IDs": [2, 3]}, {"reference_type": "hint", "track_IDs": []},
+    ])

@@ -1,7 +1,7 @@
 """`wvtt`, the sample entry of WebVTT: reserved bytes, a number, and boxes, which are kept as bytes. The bytes of the
 fields count up from 0x81."""
 
-from tests.rows.making import Box, box, changed, counting, declared, declared_as, resized
+from tests.rows.making import Box, box, changed, counting, declared, declared_as, fields, resized, u16
 
 FRONT = bytes(6) + counting(0x81, 0x82)
 BOXES = box(b"vttC", b"WEBVTT") + box(b"vlab", counting(0x83, 0x85))
@@ -26,3 +26,9 @@ def bytes_after_the_box_are_left_out():
     for size in (8, 15, 16):
         yield declared(resized(WVTT, size), wvtt(b""), box(b"wvtt", FRONT))
     yield declared(resized(WVTT, 29), wvtt(BOXES[:13]), resized(WVTT[:29], 29))
+
+
+def fields_of_a_number_and_boxes():
+    """ISO/IEC 14496-30, 7.5."""
+    yield fields(
+        box(b"wvtt", bytes(6), u16(2), box(b"free")), data_reference_index=2, data_bytes="0000000866726565")

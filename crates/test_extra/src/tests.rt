@@ -1,17 +1,6 @@
 //! Tests of values that cannot be written: a number does not fit its field, or a part belongs to another version or
-//! flag. Such values cannot be read from bytes, so a row (bytes with the expected result) cannot cover them. Modules
-//! whose names begin with `fields` test the JSON of boxes.
+//! flag. Such values cannot be read from bytes, so a row (bytes with the expected result) cannot cover them.
 
-mod fields;
-mod fields_auxiliary;
-mod fields_colours;
-mod fields_decoded;
-mod fields_groups;
-mod fields_protection;
-mod fields_samples;
-mod fields_segments;
-mod fields_sizes;
-mod fields_tracks;
 mod lists;
 mod numbers;
 mod parents;
