@@ -2,8 +2,8 @@
 or past the buffer, and end before or after the bytes that are read of them."""
 
 from tests.rows.making import (
-    CHILD_TOO_SMALL, END, LARGEST, LARGE_TOO_SMALL, PAST_64_BITS, box, changed, counting, full, large, larger_child,
-    listed, one, round_trip, u32,
+    CHILD_TOO_SMALL, END, LARGEST, LARGE_TOO_SMALL, PAST_64_BITS, box, changed, counting, fields, full, large,
+    larger_child, listed, one, round_trip, u32,
 )
 from tests.rows.values import DREF_URL, dref, full_box, url
 
@@ -171,3 +171,8 @@ def entry_count_has_32_bits():
     for bit in range(1, 32):
         yield one(references(1 << bit, *children), dref(url(flags=2)))
     yield one(references(1, *children), dref(url(flags=1)))
+
+
+def fields_of_no_references():
+    """ISO/IEC 14496-12, 8.7.2."""
+    yield fields(full(b"dref", u32(0), version=1, flags=2), version=1, flags=2, entry_count=0)

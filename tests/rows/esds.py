@@ -6,8 +6,8 @@ from tests.rows.entry_values import (
     AUDIO_CONFIGURATIONS, ESDS, ESDS_VALUE, config, esds, esds_bytes, esds_bytes_of, esds_of, specific,
 )
 from tests.rows.making import (
-    END, LARGEST, PAST_64_BITS, box, changed, counting, invalid, large, one, resized, round_trip, u8, u16, u24, u32,
-    written_as,
+    END, LARGEST, PAST_64_BITS, box, changed, counting, fields, full, invalid, large, one, resized, round_trip, u8, u16,
+    u24, u32, written_as,
 )
 
 NOT_FOUND = invalid("ESDescriptor not found")
@@ -350,3 +350,23 @@ def every_other_tag_ends_the_streams():
     for tag in range(256):
         if tag != 3:
             yield one(esds_bytes(stream(1), bytes([tag, 0]), stream(2)), esds(1), headers=2)
+
+
+def fields_of_descriptors():
+    """ISO/IEC 14496-14, 5.6."""
+    # Has the stream type 5 in six bits, the direction 1 in one, and then a bit of 1.
+    decoder = u8(4, 0x17) + u24(7) + u32(8, 9)
+    # Has the bits 01010 1111, 13 in 24 bits, 1100 and three of padding; and 01010 1011 1100 and three of padding.
+    for content, specific_fields in [
+        (b"\x57\x80\x00\x06\xe0", {"profile": 10, "freq_index": 15, "sample_rate": 13, "chan_conf": 12}),
+        (b"\x55\xe0", {"profile": 10, "freq_index": 11, "chan_conf": 12}),
+    ]:
+        n = len(content)
+        inner = u8(4, 15 + n) + decoder + u8(5, n) + content
+        yield fields(
+            full(b"esds", u8(3, 23 + n), u16(3), u8(0), inner, u8(6, 1, 2), version=1, flags=2), version=1, flags=2,
+            es_desc={"es_id": 3, "dec_config": {
+                "object_type_indication": 4, "stream_type": 5, "up_stream": 2, "buffer_size_db": 7, "max_bitrate": 8,
+                "avg_bitrate": 9, "dec_specific": specific_fields,
+            }},
+        )

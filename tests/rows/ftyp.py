@@ -1,6 +1,6 @@
 """`ftyp`, the brands of a file. The bytes of the fields count up from 0x81."""
 
-from tests.rows.making import box, counting, invalid, listed, round_trip, u32
+from tests.rows.making import box, counting, fields, invalid, listed, round_trip, u32
 from tests.rows.values import ftyp
 
 
@@ -18,3 +18,11 @@ def two_brands():
 def brand_of_two_bytes():
     given = box(b"ftyp", b"isom", u32(0), b"\0\0")
     yield listed(given, invalid("ftyp size too small or not aligned"))
+
+
+def fields_of_two_brands():
+    """ISO/IEC 14496-12, 4.3."""
+    yield fields(
+        box(b"ftyp", b"isom", u32(512), b"mp41avc1"),
+        major_brand="isom", minor_version=512, compatible_brands=["mp41", "avc1"],
+    )

@@ -1,7 +1,7 @@
 """`hdlr`, the handler of a media. The bytes of the fields count up from 0x81, except the name."""
 
 from tests.rows.making import (
-    END, box, changed, counting, filled, full, invalid, listed, one, resized, round_trip, u32, written_as,
+    END, box, changed, counting, fields, filled, full, invalid, listed, one, resized, round_trip, u32, written_as,
 )
 from tests.rows.utf8 import CHARACTERS, OTHER_BYTES
 from tests.rows.values import HDLR, full_box, hdlr
@@ -66,3 +66,11 @@ def few_bytes():
 
 def text_of_a_size_without_a_name():
     yield listed(full(b"hdlr", u32(0), b"vide", bytes(12)), TOO_SMALL)
+
+
+def fields_of_a_name_in_quotes():
+    """ISO/IEC 14496-12, 8.4.3."""
+    yield fields(
+        full(b"hdlr", u32(0), b"vide", bytes(12), b'a "b"\0', version=1, flags=2),
+        version=1, flags=2, handler_type="vide", name='a "b"',
+    )
