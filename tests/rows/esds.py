@@ -125,10 +125,15 @@ def other_tags():
 
 
 def descriptors_of_encoders():
-    """The last three bytes of the second audio configuration are read as a header of length 12928, and so as a gap to
+    """The last three bytes of the third audio configuration are read as a header of length 12928, and so as a gap to
     after the end."""
     decoder = u8(0x40, 0x15) + u24(0) + u32(128000, 128000)
-    for stream_length, decoder_length, content in [(0x22, 0x14, b"\x11\x90"), (0x25, 0x17, b"\x11\x90\x56\xe5\0")]:
+    for stream_length, decoder_length, content in [
+        (0x22, 0x14, b"\x11\x90"),
+        # The last three bits of an audio configuration are not read.
+        (0x22, 0x14, b"\x11\x97"),
+        (0x25, 0x17, b"\x11\x90\x56\xe5\0"),
+    ]:
         stream = b"\3\x80\x80\x80" + u8(stream_length) + u16(1) + u8(0)
         audio = b"\5\x80\x80\x80" + u8(len(content)) + content
         yield one(
@@ -265,7 +270,8 @@ def cut_descriptors():
 
 def audio_configurations():
     for *audio, content in AUDIO_CONFIGURATIONS:
-        yield round_trip(esds_bytes_of(1, 128000, content), esds_of(1, 128000, specific(*audio)))
+        for bitrate in (0, 128000):
+            yield round_trip(esds_bytes_of(1, bitrate, content), esds_of(1, bitrate, specific(*audio)))
 
 
 def other_bits_of_an_audio_configuration():

@@ -35,6 +35,10 @@ def name_that_is_not_utf8():
     yield written_as(changed(COUNTED, {34: 0xFF}), counted("null"), counted_bytes(b"null\0"))
     given = full(b"hdlr", bytes(20), b"\xff\0")
     yield written_as(given, hdlr(name="null"), full(b"hdlr", bytes(20), b"null\0"))
+    front = u32(0) + b"vide" + bytes(12)
+    written = full(b"hdlr", front, b"null\0")
+    yield written_as(full(b"hdlr", front, b"\xff\0"), hdlr(b"vide", "null"), written)
+    yield round_trip(written, hdlr(b"vide", "null"))
 
 
 def hdlr_bytes(name):
@@ -62,6 +66,8 @@ def few_bytes():
         (short, 34, END),
     ]:
         yield one(resized(buffer, size), expected)
+    # In a list the box needs all of its bytes.
+    yield listed(resized(short, 33), END)
 
 
 def text_of_a_size_without_a_name():

@@ -1,8 +1,8 @@
 """`mp4a`, the sample entry of MPEG-4 audio: its sizes, and children. The bytes of the fields count up from 0x81."""
 
 from tests.rows.entry_values import (
-    AUDIO_CONFIGURATIONS, ESDS, ESDS_VALUE, MP4A, MP4A_VALUE, MP4A_WITHOUT_ESDS, TEST_FIELDS, esds_bytes_of, esds_of,
-    mp4a, mp4a_bytes, specific,
+    AUDIO_CONFIGURATIONS, ESDS, ESDS_VALUE, MP4A, MP4A_OF_TEST, MP4A_OF_TEST_VALUE, MP4A_VALUE, MP4A_WITHOUT_ESDS,
+    MP4A_WITHOUT_ESDS_VALUE, TEST_FIELDS, esds_bytes_of, esds_of, mp4a, mp4a_bytes, specific,
 )
 from tests.rows.esds import COUNTED as COUNTED_ESDS, COUNTED_VALUE as COUNTED_ESDS_VALUE, NOT_FOUND
 from tests.rows.making import (
@@ -21,6 +21,11 @@ def every_field():
     yield round_trip(COUNTED, mp4a(*COUNTED_FIELDS))
     given = resized(COUNTED + COUNTED_ESDS, 75)
     yield round_trip(given, mp4a(*COUNTED_FIELDS, COUNTED_ESDS_VALUE))
+
+
+def entries_of_the_rust_crate():
+    yield round_trip(MP4A_OF_TEST, MP4A_OF_TEST_VALUE)
+    yield round_trip(MP4A_WITHOUT_ESDS, MP4A_WITHOUT_ESDS_VALUE)
 
 
 def reserved_bytes_are_ignored():

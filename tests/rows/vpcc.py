@@ -38,6 +38,14 @@ def each_bit_of_three_fields():
         yield round_trip(changed(COUNTED, {14: byte}), value)
 
 
+def wide_colors():
+    given = full(b"vpcC", u8(0, 0x1F, 0x80, 9, 16, 9), u16(0), version=1)
+    yield round_trip(given, full_box(
+        "vpcC", 1, profile=0, level=31, bit_depth=8, chroma_subsampling=0, video_full_range_flag=False,
+        color_primaries=9, transfer_characteristics=16, matrix_coefficients=9, codec_initialization_data_size=0,
+    ))
+
+
 def cut_anywhere():
     yield from cuts(VPCC)
 
