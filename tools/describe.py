@@ -27,7 +27,7 @@ SOURCES = "crates/mp4_extra_*/src/*.rt"
 COMMON = ("crates/mp4_shown/src/*.rt", SOURCES)
 CODES = "crates/mp4_frame/src/codes.rt"
 # The list of the boxes that are shown by their declarations.
-SHOWN = "crates/mp4_show_extra/src/fields.rt"
+LISTED = "crates/mp4_extra/src/extra_box.rt"
 DESCRIPTION = "docs/boxes.json"
 SCHEMA = "docs/boxes.schema.json"
 PAGE = "docs/FIELDS.md"
@@ -499,9 +499,9 @@ BOXES = {"Colr": colours}
 
 
 def box_in(source):
-    """Returns the description of the box that a file declares, or `None` if its fields are not shown by declaration."""
+    """Returns the description of the box that a file declares, or `None` if there is none that ExtraBox has."""
     declared = re.search(r"impl DeclaredBox for (\w+) ", source.text)
-    if not declared or f"ExtraBox::{declared[1]}Box(b) => put_declared(b, sink)" not in read(SHOWN):
+    if not declared or f"    {declared[1]}Box({declared[1]}Box),\n" not in read(LISTED):
         return None
     name = declared[1]
     code = codes()[re.search(r"const CODE: u32 = codes::(\w+);", source.text)[1]]

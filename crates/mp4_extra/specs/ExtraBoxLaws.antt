@@ -6,11 +6,11 @@ use Rattle.mp4_frame.specs.Members.{Held, NamedAsRead, ValueOf, holds, held_insi
 use Rattle.mp4_frame.specs.MemberLaws.{IsMember, member}
 use Rattle.mp4_frame.specs.BoxType.{code_of, code_of-name_of}
 use Rattle.mp4_declared.specs.NameLaws.{plain_name}
-use Rattle.mp4_extra.specs.ExtraType.{code_of_type, type_of_code}
 use Rattle.mp4_extra.specs.ExtraTypeLaws.{type_found, code_found}
-use Rattle.mp4_extra.specs.ExtraBox.{FieldsOf, wrap, opened, Declarations, format_extra, known_as, kinds, inside}
-use Rattle.mp4_extra.specs.declared.extra_type.ExtraType.{ExtraType}
-use Rattle.mp4_extra.specs.declared.extra_type.ExtraType.TheVariants as types
+use Rattle.mp4_extra.specs.ExtraBox.{FieldsOf, code_of_type, wrap, opened, type_of_code, Declarations, format_extra}
+use Rattle.mp4_extra.specs.ExtraBox.{known_as, kinds, inside}
+use Rattle.mp4_extra.specs.declared.extra_box.ExtraType.{ExtraType}
+use Rattle.mp4_extra.specs.declared.extra_box.ExtraType.TheVariants as types
 use Rattle.mp4_extra.specs.declared.extra_box.ExtraBox.{ExtraBox}
 use Rattle.mp4_extra.specs.declared.extra_box.ExtraBox.TheVariants as boxes
 
@@ -29,7 +29,7 @@ module _ (declared : Declarations) where
   of_type : (t : ExtraType) (x : FieldsOf t) → IsMember (kinds declared) held (wrap t x)
   of_type t x =
       member (kinds declared) held (wrap t)
-      (laws_declared (declared t).shape (declared t).laws (declared t).layout (declared t).valid) (is_held t)
+      (laws_declared (declared t).is.shape (declared t).is.laws (declared t).is.layout (declared t).valid) (is_held t)
       (λ _. ap (λ (code : ℕ). known_as declared (type_of_code code)) (code_of-name_of (code_of_type t))
       ∙ ap (known_as declared) (type_found t))
       (λ _. plain_name (code_of_type t)) x

@@ -3,7 +3,6 @@
 #![tactic(auto)]
 
 mod extra_box;
-mod extra_type;
 
 pub use extra_box::ExtraBox;
 pub use mp4_declared::Code;

@@ -6,8 +6,8 @@ use Rattle.mp4_frame.specs.Members.{reading_known, Is}
 use Rattle.mp4_extra.specs.ExtraBox.{kind_of}
 use Rattle.mp4_extra.specs.contracts.extra_box.ExtraBoxDeclares.TheImpl.{ghosts}
 use Rattle.mp4_extra.specs.declared.extra_box.ExtraBox.{ExtraBox}
-use Rattle.mp4_extra.specs.declared.extra_type.ExtraType.{ExtraType}
-use Rattle.mp4_extra.specs.declared.extra_type.ExtraType.TheVariants as types
+use Rattle.mp4_extra.specs.declared.extra_box.ExtraType.{ExtraType}
+use Rattle.mp4_extra.specs.declared.extra_box.ExtraType.TheVariants as types
 use Rattle.mp4_extra.proofs.extra_box.read_of.Goals as goal
 
 -- equal types have the same readings
