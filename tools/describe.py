@@ -487,7 +487,13 @@ def descriptions(walk):
     return found
 
 
+def protection_system(_, names):
+    known = {"name": names[1], "kind": "text", "of": names[0], "optional": True}
+    return [{"name": names[0], "kind": "bytes", "length": 16}, known]
+
+
 OWN = {
+    "ProtectionSystem": protection_system,
     "ChannelMapping": channel_mapping, "BlockData": flac_block_data, "Country": locale, "Language": locale,
     "TypedValue": typed_value, "SampleSizes": sample_sizes,
 }

@@ -484,6 +484,7 @@ class _Pssh(TypedDict):
 class Pssh(_Pssh, total=False):
     """The fields of `pssh` (ISO/IEC 23001-7, 8.1)."""
 
+    SystemID_name: str
     KID: List[str]
 
 

@@ -433,9 +433,20 @@ def prft(c):
     c.numbers(f"4 reference_track_ID, 8 ntp_timestamp, {8 if version else 4} media_time")
 
 
+# Protection systems (DASH-IF, "Content protection").
+SYSTEMS = {
+    "edef8ba979d64acea3c827dcd51d21ed": "Widevine", "9a04f07998404286ab92e65be0885f95": "PlayReady",
+    "94ce86fb07ff4f43adb893d2fa968ca2": "FairPlay", "1077efecc0b24d02ace33c1e52e2fb4b": "Common",
+    "e2719d58a985b3c9781ab030af78d30e": "ClearKey",
+}
+
+
 def pssh(c):
     version, _ = c.full(2)
-    c.put("SystemID", c.as_bytes(c.take(16)))
+    system = c.take(16)
+    c.put("SystemID", c.as_bytes(system))
+    if not c.raw and system.hex() in SYSTEMS:
+        c.put("SystemID_name", SYSTEMS[system.hex()])
     if version:
         c.put("KID [key_ids]", [c.as_bytes(c.take(16)) for _ in range(c.count(4, 16))])
     c.put("Data [system_data]", c.as_bytes(c.take(c.count(4, 1, "bytes"))))

@@ -346,7 +346,7 @@ impl CodedEnum for ExtraBox {
     ghost coded = { by_code ⟦<ExtraBox as Declares>⟧.declared };
 }
 
-/// What is shown of a box is what is shown of the box inside.
+/// Shows the fields of the box inside.
 impl HasFields for ExtraBox {
     ghost shown = { shown ⟦<ExtraBox as Declares>⟧.declared };
 

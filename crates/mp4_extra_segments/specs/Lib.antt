@@ -1,2 +1,3 @@
 pub mod ShownAccesses
+pub mod ShownSystem
 pub mod ShownValue

@@ -17,190 +17,190 @@ same_shown trace after r old new view v w is handed =
 
 pub returns-in-Av1cBox : goal.returns-in-Av1cBox
 returns-in-Av1cBox g c =
-    same_shown g.K.FieldSink.trace g.K.FieldSink.after c.show.result c.args.sink.now c.show.new.sink
-    c.args.view c.args.self.now _ c.in-Av1cBox.is c.show.ensures
+    same_shown g.K.FieldSink.trace g.K.FieldSink.after c.show.result c.args.sink.now
+    c.show.new.sink c.args.view c.args.self.now _ c.in-Av1cBox.is c.show.ensures
 
 pub returns-in-BtrtBox : goal.returns-in-BtrtBox
 returns-in-BtrtBox g c =
-    same_shown g.K.FieldSink.trace g.K.FieldSink.after c.show-in-BtrtBox.result c.args.sink.now c.show-in-BtrtBox.new.sink
-    c.args.view c.args.self.now _ c.in-BtrtBox.is c.show-in-BtrtBox.ensures
+    same_shown g.K.FieldSink.trace g.K.FieldSink.after c.show-in-BtrtBox.result c.args.sink.now
+    c.show-in-BtrtBox.new.sink c.args.view c.args.self.now _ c.in-BtrtBox.is c.show-in-BtrtBox.ensures
 
 pub returns-in-ClapBox : goal.returns-in-ClapBox
 returns-in-ClapBox g c =
-    same_shown g.K.FieldSink.trace g.K.FieldSink.after c.show-in-ClapBox.result c.args.sink.now c.show-in-ClapBox.new.sink
-    c.args.view c.args.self.now _ c.in-ClapBox.is c.show-in-ClapBox.ensures
+    same_shown g.K.FieldSink.trace g.K.FieldSink.after c.show-in-ClapBox.result c.args.sink.now
+    c.show-in-ClapBox.new.sink c.args.view c.args.self.now _ c.in-ClapBox.is c.show-in-ClapBox.ensures
 
 pub returns-in-ClliBox : goal.returns-in-ClliBox
 returns-in-ClliBox g c =
-    same_shown g.K.FieldSink.trace g.K.FieldSink.after c.show-in-ClliBox.result c.args.sink.now c.show-in-ClliBox.new.sink
-    c.args.view c.args.self.now _ c.in-ClliBox.is c.show-in-ClliBox.ensures
+    same_shown g.K.FieldSink.trace g.K.FieldSink.after c.show-in-ClliBox.result c.args.sink.now
+    c.show-in-ClliBox.new.sink c.args.view c.args.self.now _ c.in-ClliBox.is c.show-in-ClliBox.ensures
 
 pub returns-in-ColrBox : goal.returns-in-ColrBox
 returns-in-ColrBox g c =
-    same_shown g.K.FieldSink.trace g.K.FieldSink.after c.show-in-ColrBox.result c.args.sink.now c.show-in-ColrBox.new.sink
-    c.args.view c.args.self.now _ c.in-ColrBox.is c.show-in-ColrBox.ensures
+    same_shown g.K.FieldSink.trace g.K.FieldSink.after c.show-in-ColrBox.result c.args.sink.now
+    c.show-in-ColrBox.new.sink c.args.view c.args.self.now _ c.in-ColrBox.is c.show-in-ColrBox.ensures
 
 pub returns-in-CslgBox : goal.returns-in-CslgBox
 returns-in-CslgBox g c =
-    same_shown g.K.FieldSink.trace g.K.FieldSink.after c.show-in-CslgBox.result c.args.sink.now c.show-in-CslgBox.new.sink
-    c.args.view c.args.self.now _ c.in-CslgBox.is c.show-in-CslgBox.ensures
+    same_shown g.K.FieldSink.trace g.K.FieldSink.after c.show-in-CslgBox.result c.args.sink.now
+    c.show-in-CslgBox.new.sink c.args.view c.args.self.now _ c.in-CslgBox.is c.show-in-CslgBox.ensures
 
 pub returns-in-Dac3Box : goal.returns-in-Dac3Box
 returns-in-Dac3Box g c =
-    same_shown g.K.FieldSink.trace g.K.FieldSink.after c.show-in-Dac3Box.result c.args.sink.now c.show-in-Dac3Box.new.sink
-    c.args.view c.args.self.now _ c.in-Dac3Box.is c.show-in-Dac3Box.ensures
+    same_shown g.K.FieldSink.trace g.K.FieldSink.after c.show-in-Dac3Box.result c.args.sink.now
+    c.show-in-Dac3Box.new.sink c.args.view c.args.self.now _ c.in-Dac3Box.is c.show-in-Dac3Box.ensures
 
 pub returns-in-DataBox : goal.returns-in-DataBox
 returns-in-DataBox g c =
-    same_shown g.K.FieldSink.trace g.K.FieldSink.after c.show-in-DataBox.result c.args.sink.now c.show-in-DataBox.new.sink
-    c.args.view c.args.self.now _ c.in-DataBox.is c.show-in-DataBox.ensures
+    same_shown g.K.FieldSink.trace g.K.FieldSink.after c.show-in-DataBox.result c.args.sink.now
+    c.show-in-DataBox.new.sink c.args.view c.args.self.now _ c.in-DataBox.is c.show-in-DataBox.ensures
 
 pub returns-in-Dec3Box : goal.returns-in-Dec3Box
 returns-in-Dec3Box g c =
-    same_shown g.K.FieldSink.trace g.K.FieldSink.after c.show-in-Dec3Box.result c.args.sink.now c.show-in-Dec3Box.new.sink
-    c.args.view c.args.self.now _ c.in-Dec3Box.is c.show-in-Dec3Box.ensures
+    same_shown g.K.FieldSink.trace g.K.FieldSink.after c.show-in-Dec3Box.result c.args.sink.now
+    c.show-in-Dec3Box.new.sink c.args.view c.args.self.now _ c.in-Dec3Box.is c.show-in-Dec3Box.ensures
 
 pub returns-in-DflaBox : goal.returns-in-DflaBox
 returns-in-DflaBox g c =
-    same_shown g.K.FieldSink.trace g.K.FieldSink.after c.show-in-DflaBox.result c.args.sink.now c.show-in-DflaBox.new.sink
-    c.args.view c.args.self.now _ c.in-DflaBox.is c.show-in-DflaBox.ensures
+    same_shown g.K.FieldSink.trace g.K.FieldSink.after c.show-in-DflaBox.result c.args.sink.now
+    c.show-in-DflaBox.new.sink c.args.view c.args.self.now _ c.in-DflaBox.is c.show-in-DflaBox.ensures
 
 pub returns-in-DopsBox : goal.returns-in-DopsBox
 returns-in-DopsBox g c =
-    same_shown g.K.FieldSink.trace g.K.FieldSink.after c.show-in-DopsBox.result c.args.sink.now c.show-in-DopsBox.new.sink
-    c.args.view c.args.self.now _ c.in-DopsBox.is c.show-in-DopsBox.ensures
+    same_shown g.K.FieldSink.trace g.K.FieldSink.after c.show-in-DopsBox.result c.args.sink.now
+    c.show-in-DopsBox.new.sink c.args.view c.args.self.now _ c.in-DopsBox.is c.show-in-DopsBox.ensures
 
 pub returns-in-ElngBox : goal.returns-in-ElngBox
 returns-in-ElngBox g c =
-    same_shown g.K.FieldSink.trace g.K.FieldSink.after c.show-in-ElngBox.result c.args.sink.now c.show-in-ElngBox.new.sink
-    c.args.view c.args.self.now _ c.in-ElngBox.is c.show-in-ElngBox.ensures
+    same_shown g.K.FieldSink.trace g.K.FieldSink.after c.show-in-ElngBox.result c.args.sink.now
+    c.show-in-ElngBox.new.sink c.args.view c.args.self.now _ c.in-ElngBox.is c.show-in-ElngBox.ensures
 
 pub returns-in-FrmaBox : goal.returns-in-FrmaBox
 returns-in-FrmaBox g c =
-    same_shown g.K.FieldSink.trace g.K.FieldSink.after c.show-in-FrmaBox.result c.args.sink.now c.show-in-FrmaBox.new.sink
-    c.args.view c.args.self.now _ c.in-FrmaBox.is c.show-in-FrmaBox.ensures
+    same_shown g.K.FieldSink.trace g.K.FieldSink.after c.show-in-FrmaBox.result c.args.sink.now
+    c.show-in-FrmaBox.new.sink c.args.view c.args.self.now _ c.in-FrmaBox.is c.show-in-FrmaBox.ensures
 
 pub returns-in-HvccBox : goal.returns-in-HvccBox
 returns-in-HvccBox g c =
-    same_shown g.K.FieldSink.trace g.K.FieldSink.after c.show-in-HvccBox.result c.args.sink.now c.show-in-HvccBox.new.sink
-    c.args.view c.args.self.now _ c.in-HvccBox.is c.show-in-HvccBox.ensures
+    same_shown g.K.FieldSink.trace g.K.FieldSink.after c.show-in-HvccBox.result c.args.sink.now
+    c.show-in-HvccBox.new.sink c.args.view c.args.self.now _ c.in-HvccBox.is c.show-in-HvccBox.ensures
 
 pub returns-in-KeysBox : goal.returns-in-KeysBox
 returns-in-KeysBox g c =
-    same_shown g.K.FieldSink.trace g.K.FieldSink.after c.show-in-KeysBox.result c.args.sink.now c.show-in-KeysBox.new.sink
-    c.args.view c.args.self.now _ c.in-KeysBox.is c.show-in-KeysBox.ensures
+    same_shown g.K.FieldSink.trace g.K.FieldSink.after c.show-in-KeysBox.result c.args.sink.now
+    c.show-in-KeysBox.new.sink c.args.view c.args.self.now _ c.in-KeysBox.is c.show-in-KeysBox.ensures
 
 pub returns-in-KindBox : goal.returns-in-KindBox
 returns-in-KindBox g c =
-    same_shown g.K.FieldSink.trace g.K.FieldSink.after c.show-in-KindBox.result c.args.sink.now c.show-in-KindBox.new.sink
-    c.args.view c.args.self.now _ c.in-KindBox.is c.show-in-KindBox.ensures
+    same_shown g.K.FieldSink.trace g.K.FieldSink.after c.show-in-KindBox.result c.args.sink.now
+    c.show-in-KindBox.new.sink c.args.view c.args.self.now _ c.in-KindBox.is c.show-in-KindBox.ensures
 
 pub returns-in-MdcvBox : goal.returns-in-MdcvBox
 returns-in-MdcvBox g c =
-    same_shown g.K.FieldSink.trace g.K.FieldSink.after c.show-in-MdcvBox.result c.args.sink.now c.show-in-MdcvBox.new.sink
-    c.args.view c.args.self.now _ c.in-MdcvBox.is c.show-in-MdcvBox.ensures
+    same_shown g.K.FieldSink.trace g.K.FieldSink.after c.show-in-MdcvBox.result c.args.sink.now
+    c.show-in-MdcvBox.new.sink c.args.view c.args.self.now _ c.in-MdcvBox.is c.show-in-MdcvBox.ensures
 
 pub returns-in-MfroBox : goal.returns-in-MfroBox
 returns-in-MfroBox g c =
-    same_shown g.K.FieldSink.trace g.K.FieldSink.after c.show-in-MfroBox.result c.args.sink.now c.show-in-MfroBox.new.sink
-    c.args.view c.args.self.now _ c.in-MfroBox.is c.show-in-MfroBox.ensures
+    same_shown g.K.FieldSink.trace g.K.FieldSink.after c.show-in-MfroBox.result c.args.sink.now
+    c.show-in-MfroBox.new.sink c.args.view c.args.self.now _ c.in-MfroBox.is c.show-in-MfroBox.ensures
 
 pub returns-in-NmhdBox : goal.returns-in-NmhdBox
 returns-in-NmhdBox g c =
-    same_shown g.K.FieldSink.trace g.K.FieldSink.after c.show-in-NmhdBox.result c.args.sink.now c.show-in-NmhdBox.new.sink
-    c.args.view c.args.self.now _ c.in-NmhdBox.is c.show-in-NmhdBox.ensures
+    same_shown g.K.FieldSink.trace g.K.FieldSink.after c.show-in-NmhdBox.result c.args.sink.now
+    c.show-in-NmhdBox.new.sink c.args.view c.args.self.now _ c.in-NmhdBox.is c.show-in-NmhdBox.ensures
 
 pub returns-in-PaspBox : goal.returns-in-PaspBox
 returns-in-PaspBox g c =
-    same_shown g.K.FieldSink.trace g.K.FieldSink.after c.show-in-PaspBox.result c.args.sink.now c.show-in-PaspBox.new.sink
-    c.args.view c.args.self.now _ c.in-PaspBox.is c.show-in-PaspBox.ensures
+    same_shown g.K.FieldSink.trace g.K.FieldSink.after c.show-in-PaspBox.result c.args.sink.now
+    c.show-in-PaspBox.new.sink c.args.view c.args.self.now _ c.in-PaspBox.is c.show-in-PaspBox.ensures
 
 pub returns-in-PrftBox : goal.returns-in-PrftBox
 returns-in-PrftBox g c =
-    same_shown g.K.FieldSink.trace g.K.FieldSink.after c.show-in-PrftBox.result c.args.sink.now c.show-in-PrftBox.new.sink
-    c.args.view c.args.self.now _ c.in-PrftBox.is c.show-in-PrftBox.ensures
+    same_shown g.K.FieldSink.trace g.K.FieldSink.after c.show-in-PrftBox.result c.args.sink.now
+    c.show-in-PrftBox.new.sink c.args.view c.args.self.now _ c.in-PrftBox.is c.show-in-PrftBox.ensures
 
 pub returns-in-PsshBox : goal.returns-in-PsshBox
 returns-in-PsshBox g c =
-    same_shown g.K.FieldSink.trace g.K.FieldSink.after c.show-in-PsshBox.result c.args.sink.now c.show-in-PsshBox.new.sink
-    c.args.view c.args.self.now _ c.in-PsshBox.is c.show-in-PsshBox.ensures
+    same_shown g.K.FieldSink.trace g.K.FieldSink.after c.show-in-PsshBox.result c.args.sink.now
+    c.show-in-PsshBox.new.sink c.args.view c.args.self.now _ c.in-PsshBox.is c.show-in-PsshBox.ensures
 
 pub returns-in-SaioBox : goal.returns-in-SaioBox
 returns-in-SaioBox g c =
-    same_shown g.K.FieldSink.trace g.K.FieldSink.after c.show-in-SaioBox.result c.args.sink.now c.show-in-SaioBox.new.sink
-    c.args.view c.args.self.now _ c.in-SaioBox.is c.show-in-SaioBox.ensures
+    same_shown g.K.FieldSink.trace g.K.FieldSink.after c.show-in-SaioBox.result c.args.sink.now
+    c.show-in-SaioBox.new.sink c.args.view c.args.self.now _ c.in-SaioBox.is c.show-in-SaioBox.ensures
 
 pub returns-in-SaizBox : goal.returns-in-SaizBox
 returns-in-SaizBox g c =
-    same_shown g.K.FieldSink.trace g.K.FieldSink.after c.show-in-SaizBox.result c.args.sink.now c.show-in-SaizBox.new.sink
-    c.args.view c.args.self.now _ c.in-SaizBox.is c.show-in-SaizBox.ensures
+    same_shown g.K.FieldSink.trace g.K.FieldSink.after c.show-in-SaizBox.result c.args.sink.now
+    c.show-in-SaizBox.new.sink c.args.view c.args.self.now _ c.in-SaizBox.is c.show-in-SaizBox.ensures
 
 pub returns-in-SbgpBox : goal.returns-in-SbgpBox
 returns-in-SbgpBox g c =
-    same_shown g.K.FieldSink.trace g.K.FieldSink.after c.show-in-SbgpBox.result c.args.sink.now c.show-in-SbgpBox.new.sink
-    c.args.view c.args.self.now _ c.in-SbgpBox.is c.show-in-SbgpBox.ensures
+    same_shown g.K.FieldSink.trace g.K.FieldSink.after c.show-in-SbgpBox.result c.args.sink.now
+    c.show-in-SbgpBox.new.sink c.args.view c.args.self.now _ c.in-SbgpBox.is c.show-in-SbgpBox.ensures
 
 pub returns-in-SchmBox : goal.returns-in-SchmBox
 returns-in-SchmBox g c =
-    same_shown g.K.FieldSink.trace g.K.FieldSink.after c.show-in-SchmBox.result c.args.sink.now c.show-in-SchmBox.new.sink
-    c.args.view c.args.self.now _ c.in-SchmBox.is c.show-in-SchmBox.ensures
+    same_shown g.K.FieldSink.trace g.K.FieldSink.after c.show-in-SchmBox.result c.args.sink.now
+    c.show-in-SchmBox.new.sink c.args.view c.args.self.now _ c.in-SchmBox.is c.show-in-SchmBox.ensures
 
 pub returns-in-SdtpBox : goal.returns-in-SdtpBox
 returns-in-SdtpBox g c =
-    same_shown g.K.FieldSink.trace g.K.FieldSink.after c.show-in-SdtpBox.result c.args.sink.now c.show-in-SdtpBox.new.sink
-    c.args.view c.args.self.now _ c.in-SdtpBox.is c.show-in-SdtpBox.ensures
+    same_shown g.K.FieldSink.trace g.K.FieldSink.after c.show-in-SdtpBox.result c.args.sink.now
+    c.show-in-SdtpBox.new.sink c.args.view c.args.self.now _ c.in-SdtpBox.is c.show-in-SdtpBox.ensures
 
 pub returns-in-SencBox : goal.returns-in-SencBox
 returns-in-SencBox g c =
-    same_shown g.K.FieldSink.trace g.K.FieldSink.after c.show-in-SencBox.result c.args.sink.now c.show-in-SencBox.new.sink
-    c.args.view c.args.self.now _ c.in-SencBox.is c.show-in-SencBox.ensures
+    same_shown g.K.FieldSink.trace g.K.FieldSink.after c.show-in-SencBox.result c.args.sink.now
+    c.show-in-SencBox.new.sink c.args.view c.args.self.now _ c.in-SencBox.is c.show-in-SencBox.ensures
 
 pub returns-in-SgpdBox : goal.returns-in-SgpdBox
 returns-in-SgpdBox g c =
-    same_shown g.K.FieldSink.trace g.K.FieldSink.after c.show-in-SgpdBox.result c.args.sink.now c.show-in-SgpdBox.new.sink
-    c.args.view c.args.self.now _ c.in-SgpdBox.is c.show-in-SgpdBox.ensures
+    same_shown g.K.FieldSink.trace g.K.FieldSink.after c.show-in-SgpdBox.result c.args.sink.now
+    c.show-in-SgpdBox.new.sink c.args.view c.args.self.now _ c.in-SgpdBox.is c.show-in-SgpdBox.ensures
 
 pub returns-in-SidxBox : goal.returns-in-SidxBox
 returns-in-SidxBox g c =
-    same_shown g.K.FieldSink.trace g.K.FieldSink.after c.show-in-SidxBox.result c.args.sink.now c.show-in-SidxBox.new.sink
-    c.args.view c.args.self.now _ c.in-SidxBox.is c.show-in-SidxBox.ensures
+    same_shown g.K.FieldSink.trace g.K.FieldSink.after c.show-in-SidxBox.result c.args.sink.now
+    c.show-in-SidxBox.new.sink c.args.view c.args.self.now _ c.in-SidxBox.is c.show-in-SidxBox.ensures
 
 pub returns-in-StppBox : goal.returns-in-StppBox
 returns-in-StppBox g c =
-    same_shown g.K.FieldSink.trace g.K.FieldSink.after c.show-in-StppBox.result c.args.sink.now c.show-in-StppBox.new.sink
-    c.args.view c.args.self.now _ c.in-StppBox.is c.show-in-StppBox.ensures
+    same_shown g.K.FieldSink.trace g.K.FieldSink.after c.show-in-StppBox.result c.args.sink.now
+    c.show-in-StppBox.new.sink c.args.view c.args.self.now _ c.in-StppBox.is c.show-in-StppBox.ensures
 
 pub returns-in-StypBox : goal.returns-in-StypBox
 returns-in-StypBox g c =
-    same_shown g.K.FieldSink.trace g.K.FieldSink.after c.show-in-StypBox.result c.args.sink.now c.show-in-StypBox.new.sink
-    c.args.view c.args.self.now _ c.in-StypBox.is c.show-in-StypBox.ensures
+    same_shown g.K.FieldSink.trace g.K.FieldSink.after c.show-in-StypBox.result c.args.sink.now
+    c.show-in-StypBox.new.sink c.args.view c.args.self.now _ c.in-StypBox.is c.show-in-StypBox.ensures
 
 pub returns-in-Stz2Box : goal.returns-in-Stz2Box
 returns-in-Stz2Box g c =
-    same_shown g.K.FieldSink.trace g.K.FieldSink.after c.show-in-Stz2Box.result c.args.sink.now c.show-in-Stz2Box.new.sink
-    c.args.view c.args.self.now _ c.in-Stz2Box.is c.show-in-Stz2Box.ensures
+    same_shown g.K.FieldSink.trace g.K.FieldSink.after c.show-in-Stz2Box.result c.args.sink.now
+    c.show-in-Stz2Box.new.sink c.args.view c.args.self.now _ c.in-Stz2Box.is c.show-in-Stz2Box.ensures
 
 pub returns-in-SubsBox : goal.returns-in-SubsBox
 returns-in-SubsBox g c =
-    same_shown g.K.FieldSink.trace g.K.FieldSink.after c.show-in-SubsBox.result c.args.sink.now c.show-in-SubsBox.new.sink
-    c.args.view c.args.self.now _ c.in-SubsBox.is c.show-in-SubsBox.ensures
+    same_shown g.K.FieldSink.trace g.K.FieldSink.after c.show-in-SubsBox.result c.args.sink.now
+    c.show-in-SubsBox.new.sink c.args.view c.args.self.now _ c.in-SubsBox.is c.show-in-SubsBox.ensures
 
 pub returns-in-TencBox : goal.returns-in-TencBox
 returns-in-TencBox g c =
-    same_shown g.K.FieldSink.trace g.K.FieldSink.after c.show-in-TencBox.result c.args.sink.now c.show-in-TencBox.new.sink
-    c.args.view c.args.self.now _ c.in-TencBox.is c.show-in-TencBox.ensures
+    same_shown g.K.FieldSink.trace g.K.FieldSink.after c.show-in-TencBox.result c.args.sink.now
+    c.show-in-TencBox.new.sink c.args.view c.args.self.now _ c.in-TencBox.is c.show-in-TencBox.ensures
 
 pub returns-in-TfraBox : goal.returns-in-TfraBox
 returns-in-TfraBox g c =
-    same_shown g.K.FieldSink.trace g.K.FieldSink.after c.show-in-TfraBox.result c.args.sink.now c.show-in-TfraBox.new.sink
-    c.args.view c.args.self.now _ c.in-TfraBox.is c.show-in-TfraBox.ensures
+    same_shown g.K.FieldSink.trace g.K.FieldSink.after c.show-in-TfraBox.result c.args.sink.now
+    c.show-in-TfraBox.new.sink c.args.view c.args.self.now _ c.in-TfraBox.is c.show-in-TfraBox.ensures
 
 pub returns-in-TrefBox : goal.returns-in-TrefBox
 returns-in-TrefBox g c =
-    same_shown g.K.FieldSink.trace g.K.FieldSink.after c.show-in-TrefBox.result c.args.sink.now c.show-in-TrefBox.new.sink
-    c.args.view c.args.self.now _ c.in-TrefBox.is c.show-in-TrefBox.ensures
+    same_shown g.K.FieldSink.trace g.K.FieldSink.after c.show-in-TrefBox.result c.args.sink.now
+    c.show-in-TrefBox.new.sink c.args.view c.args.self.now _ c.in-TrefBox.is c.show-in-TrefBox.ensures
 
 pub returns-in-WvttBox : goal.returns-in-WvttBox
 returns-in-WvttBox g c =
-    same_shown g.K.FieldSink.trace g.K.FieldSink.after c.show-in-WvttBox.result c.args.sink.now c.show-in-WvttBox.new.sink
-    c.args.view c.args.self.now _ c.in-WvttBox.is c.show-in-WvttBox.ensures
+    same_shown g.K.FieldSink.trace g.K.FieldSink.after c.show-in-WvttBox.result c.args.sink.now
+    c.show-in-WvttBox.new.sink c.args.view c.args.self.now _ c.in-WvttBox.is c.show-in-WvttBox.ensures
