@@ -15,7 +15,7 @@ use Rattle.mp4_extra.specs.declared.extra_box.ExtraBox.{ExtraBox}
 use Rattle.mp4_extra.specs.declared.extra_box.ExtraBox.TheVariants as boxes
 
 reopened : (v : ExtraBox) → wrap (opened v).0 (opened v).1 ≡ v
-reopened (boxes.Av1cBox fields) = refl
+reopened (boxes.AlacBox fields) = refl
 reopened _ = refl
 
 module _ (declared : Declarations) where
@@ -23,7 +23,7 @@ module _ (declared : Declarations) where
   held = held_inside (inside declared)
 
   is_held : (t : ExtraType) (x : FieldsOf t) → held (wrap t x) ≡ holds (format_extra declared t) (wrap t) x
-  is_held types.Av1cBox x = refl
+  is_held types.AlacBox x = refl
   is_held _ x = refl
 
   of_type : (t : ExtraType) (x : FieldsOf t) → IsMember (kinds declared) held (wrap t x)

@@ -9,7 +9,7 @@ use Rattle.mp4_extra.specs.declared.extra_box.ExtraType.TheVariants as types
 
 pub type_found : (t : ExtraType) → type_of_code (code_of_type t) ≡ Some t
 unfolding type_of_code
-type_found types.Av1cBox = refl
+type_found types.AlacBox = refl
 type_found _ = refl
 
 chosen : (b : Bool) (code : ℕ) (t u : ExtraType) (rest : Option ExtraType) → (b ≡ true → code ≡ code_of_type t)

@@ -27,8 +27,12 @@ macro_rules! of_boxes {
     ($go:ident, $($rest:tt)*) => {
         $go! {
             [
+                AlacBox ALAC,
+                AuxcBox AUXC,
                 Av1cBox AV1C,
                 BtrtBox BTRT,
+                ChanBox CHAN,
+                ChnlBox CHNL,
                 ClapBox CLAP,
                 ClliBox CLLI,
                 ColrBox COLR,
@@ -38,15 +42,33 @@ macro_rules! of_boxes {
                 Dec3Box DEC3,
                 DflaBox DFLA,
                 DopsBox DOPS,
+                DvccBox DVCC,
+                DvvcBox DVVC,
                 ElngBox ELNG,
+                EndaBox ENDA,
+                FielBox FIEL,
                 FrmaBox FRMA,
+                GminBox GMIN,
+                HmhdBox HMHD,
                 HvccBox HVCC,
+                IlocBox ILOC,
+                ImirBox IMIR,
+                InfeBox INFE,
+                IodsBox IODS,
+                IpmaBox IPMA,
+                IrotBox IROT,
+                IspeBox ISPE,
                 KeysBox KEYS,
                 KindBox KIND,
+                LevaBox LEVA,
                 MdcvBox MDCV,
+                MeanBox MEAN,
                 MfroBox MFRO,
+                NameBox TAG_NAME,
                 NmhdBox NMHD,
                 PaspBox PASP,
+                PitmBox PITM,
+                PixiBox PIXI,
                 PrftBox PRFT,
                 PsshBox PSSH,
                 SaioBox SAIO,
@@ -57,13 +79,19 @@ macro_rules! of_boxes {
                 SencBox SENC,
                 SgpdBox SGPD,
                 SidxBox SIDX,
+                SratBox SRAT,
+                SsixBox SSIX,
+                SthdBox STHD,
                 StppBox STPP,
                 StypBox STYP,
                 Stz2Box STZ2,
                 SubsBox SUBS,
+                TcmiBox TCMI,
                 TencBox TENC,
+                TextBox TEXT,
                 TfraBox TFRA,
                 TrefBox TREF,
+                VvccBox VVCC,
                 WvttBox WVTT
             ]
             $($rest)*
@@ -118,8 +146,12 @@ macro_rules! print_extra {
 /// A box of any type of this crate.
 #[derive(Drop, PartialEq, Eq)]
 pub enum ExtraBox {
+    AlacBox(AlacBox),
+    AuxcBox(AuxcBox),
     Av1cBox(Av1cBox),
     BtrtBox(BtrtBox),
+    ChanBox(ChanBox),
+    ChnlBox(ChnlBox),
     ClapBox(ClapBox),
     ClliBox(ClliBox),
     ColrBox(ColrBox),
@@ -129,15 +161,33 @@ pub enum ExtraBox {
     Dec3Box(Dec3Box),
     DflaBox(DflaBox),
     DopsBox(DopsBox),
+    DvccBox(DvccBox),
+    DvvcBox(DvvcBox),
     ElngBox(ElngBox),
+    EndaBox(EndaBox),
+    FielBox(FielBox),
     FrmaBox(FrmaBox),
+    GminBox(GminBox),
+    HmhdBox(HmhdBox),
     HvccBox(HvccBox),
+    IlocBox(IlocBox),
+    ImirBox(ImirBox),
+    InfeBox(InfeBox),
+    IodsBox(IodsBox),
+    IpmaBox(IpmaBox),
+    IrotBox(IrotBox),
+    IspeBox(IspeBox),
     KeysBox(KeysBox),
     KindBox(KindBox),
+    LevaBox(LevaBox),
     MdcvBox(MdcvBox),
+    MeanBox(MeanBox),
     MfroBox(MfroBox),
+    NameBox(NameBox),
     NmhdBox(NmhdBox),
     PaspBox(PaspBox),
+    PitmBox(PitmBox),
+    PixiBox(PixiBox),
     PrftBox(PrftBox),
     PsshBox(PsshBox),
     SaioBox(SaioBox),
@@ -148,21 +198,31 @@ pub enum ExtraBox {
     SencBox(SencBox),
     SgpdBox(SgpdBox),
     SidxBox(SidxBox),
+    SratBox(SratBox),
+    SsixBox(SsixBox),
+    SthdBox(SthdBox),
     StppBox(StppBox),
     StypBox(StypBox),
     Stz2Box(Stz2Box),
     SubsBox(SubsBox),
+    TcmiBox(TcmiBox),
     TencBox(TencBox),
+    TextBox(TextBox),
     TfraBox(TfraBox),
     TrefBox(TrefBox),
+    VvccBox(VvccBox),
     WvttBox(WvttBox),
 }
 
 /// A type of boxes that an `ExtraBox` holds.
 #[derive(Clone, Copy)]
 pub enum ExtraType {
+    AlacBox,
+    AuxcBox,
     Av1cBox,
     BtrtBox,
+    ChanBox,
+    ChnlBox,
     ClapBox,
     ClliBox,
     ColrBox,
@@ -172,15 +232,33 @@ pub enum ExtraType {
     Dec3Box,
     DflaBox,
     DopsBox,
+    DvccBox,
+    DvvcBox,
     ElngBox,
+    EndaBox,
+    FielBox,
     FrmaBox,
+    GminBox,
+    HmhdBox,
     HvccBox,
+    IlocBox,
+    ImirBox,
+    InfeBox,
+    IodsBox,
+    IpmaBox,
+    IrotBox,
+    IspeBox,
     KeysBox,
     KindBox,
+    LevaBox,
     MdcvBox,
+    MeanBox,
     MfroBox,
+    NameBox,
     NmhdBox,
     PaspBox,
+    PitmBox,
+    PixiBox,
     PrftBox,
     PsshBox,
     SaioBox,
@@ -191,13 +269,19 @@ pub enum ExtraType {
     SencBox,
     SgpdBox,
     SidxBox,
+    SratBox,
+    SsixBox,
+    SthdBox,
     StppBox,
     StypBox,
     Stz2Box,
     SubsBox,
+    TcmiBox,
     TencBox,
+    TextBox,
     TfraBox,
     TrefBox,
+    VvccBox,
     WvttBox,
 }
 
@@ -253,8 +337,12 @@ trait Declares {
 
 impl Declares for ExtraBox {
     ghost declared = { elim [
+      | types.AlacBox ↦ valid_as ⟦<Alac as Described>⟧.declaration refl
+      | types.AuxcBox ↦ valid_as ⟦<Auxc as Described>⟧.declaration refl
       | types.Av1cBox ↦ valid_as ⟦<Av1c as Described>⟧.declaration refl
       | types.BtrtBox ↦ valid_as ⟦<Btrt as Described>⟧.declaration refl
+      | types.ChanBox ↦ valid_as ⟦<Chan as Described>⟧.declaration refl
+      | types.ChnlBox ↦ valid_as ⟦<Chnl as Described>⟧.declaration refl
       | types.ClapBox ↦ valid_as ⟦<Clap as Described>⟧.declaration refl
       | types.ClliBox ↦ valid_as ⟦<Clli as Described>⟧.declaration refl
       | types.ColrBox ↦ valid_as ⟦<Colr as Described>⟧.declaration refl
@@ -264,15 +352,33 @@ impl Declares for ExtraBox {
       | types.Dec3Box ↦ valid_as ⟦<Dec3 as Described>⟧.declaration refl
       | types.DflaBox ↦ valid_as ⟦<Dfla as Described>⟧.declaration refl
       | types.DopsBox ↦ valid_as ⟦<Dops as Described>⟧.declaration refl
+      | types.DvccBox ↦ valid_as ⟦<Dvcc as Described>⟧.declaration refl
+      | types.DvvcBox ↦ valid_as ⟦<Dvvc as Described>⟧.declaration refl
       | types.ElngBox ↦ valid_as ⟦<Elng as Described>⟧.declaration refl
+      | types.EndaBox ↦ valid_as ⟦<Enda as Described>⟧.declaration refl
+      | types.FielBox ↦ valid_as ⟦<Fiel as Described>⟧.declaration refl
       | types.FrmaBox ↦ valid_as ⟦<Frma as Described>⟧.declaration refl
+      | types.GminBox ↦ valid_as ⟦<Gmin as Described>⟧.declaration refl
+      | types.HmhdBox ↦ valid_as ⟦<Hmhd as Described>⟧.declaration refl
       | types.HvccBox ↦ valid_as ⟦<Hvcc as Described>⟧.declaration refl
+      | types.IlocBox ↦ valid_as ⟦<Iloc as Described>⟧.declaration refl
+      | types.ImirBox ↦ valid_as ⟦<Imir as Described>⟧.declaration refl
+      | types.InfeBox ↦ valid_as ⟦<Infe as Described>⟧.declaration refl
+      | types.IodsBox ↦ valid_as ⟦<Iods as Described>⟧.declaration refl
+      | types.IpmaBox ↦ valid_as ⟦<Ipma as Described>⟧.declaration refl
+      | types.IrotBox ↦ valid_as ⟦<Irot as Described>⟧.declaration refl
+      | types.IspeBox ↦ valid_as ⟦<Ispe as Described>⟧.declaration refl
       | types.KeysBox ↦ valid_as ⟦<Keys as Described>⟧.declaration refl
       | types.KindBox ↦ valid_as ⟦<Kind as Described>⟧.declaration refl
+      | types.LevaBox ↦ valid_as ⟦<Leva as Described>⟧.declaration refl
       | types.MdcvBox ↦ valid_as ⟦<Mdcv as Described>⟧.declaration refl
+      | types.MeanBox ↦ valid_as ⟦<Mean as Described>⟧.declaration refl
       | types.MfroBox ↦ valid_as ⟦<Mfro as Described>⟧.declaration refl
+      | types.NameBox ↦ valid_as ⟦<Name as Described>⟧.declaration refl
       | types.NmhdBox ↦ valid_as ⟦<Nmhd as Described>⟧.declaration refl
       | types.PaspBox ↦ valid_as ⟦<Pasp as Described>⟧.declaration refl
+      | types.PitmBox ↦ valid_as ⟦<Pitm as Described>⟧.declaration refl
+      | types.PixiBox ↦ valid_as ⟦<Pixi as Described>⟧.declaration refl
       | types.PrftBox ↦ valid_as ⟦<Prft as Described>⟧.declaration refl
       | types.PsshBox ↦ valid_as ⟦<Pssh as Described>⟧.declaration refl
       | types.SaioBox ↦ valid_as ⟦<Saio as Described>⟧.declaration refl
@@ -283,13 +389,19 @@ impl Declares for ExtraBox {
       | types.SencBox ↦ valid_as ⟦<Senc as Described>⟧.declaration refl
       | types.SgpdBox ↦ valid_as ⟦<Sgpd as Described>⟧.declaration refl
       | types.SidxBox ↦ valid_as ⟦<Sidx as Described>⟧.declaration refl
+      | types.SratBox ↦ valid_as ⟦<Srat as Described>⟧.declaration refl
+      | types.SsixBox ↦ valid_as ⟦<Ssix as Described>⟧.declaration refl
+      | types.SthdBox ↦ valid_as ⟦<Sthd as Described>⟧.declaration refl
       | types.StppBox ↦ valid_as ⟦<Stpp as Described>⟧.declaration refl
       | types.StypBox ↦ valid_as ⟦<Styp as Described>⟧.declaration refl
       | types.Stz2Box ↦ valid_as ⟦<Stz2 as Described>⟧.declaration refl
       | types.SubsBox ↦ valid_as ⟦<Subs as Described>⟧.declaration refl
+      | types.TcmiBox ↦ valid_as ⟦<Tcmi as Described>⟧.declaration refl
       | types.TencBox ↦ valid_as ⟦<Tenc as Described>⟧.declaration refl
+      | types.TextBox ↦ valid_as ⟦<Text as Described>⟧.declaration refl
       | types.TfraBox ↦ valid_as ⟦<Tfra as Described>⟧.declaration refl
       | types.TrefBox ↦ valid_as ⟦<Tref as Described>⟧.declaration refl
+      | types.VvccBox ↦ valid_as ⟦<Vvcc as Described>⟧.declaration refl
       | types.WvttBox ↦ valid_as ⟦<Wvtt as Described>⟧.declaration refl
     ] };
 }
@@ -357,6 +469,22 @@ impl HasFields for ExtraBox {
     }
 }
 
+impl Holds<AlacBox> for ExtraBox {
+    ghost wrapped = { boxes.AlacBox };
+
+    fn wrap(value: AlacBox) -> ExtraBox {
+        ExtraBox::AlacBox(value)
+    }
+}
+
+impl Holds<AuxcBox> for ExtraBox {
+    ghost wrapped = { boxes.AuxcBox };
+
+    fn wrap(value: AuxcBox) -> ExtraBox {
+        ExtraBox::AuxcBox(value)
+    }
+}
+
 impl Holds<Av1cBox> for ExtraBox {
     ghost wrapped = { boxes.Av1cBox };
 
@@ -370,6 +498,22 @@ impl Holds<BtrtBox> for ExtraBox {
 
     fn wrap(value: BtrtBox) -> ExtraBox {
         ExtraBox::BtrtBox(value)
+    }
+}
+
+impl Holds<ChanBox> for ExtraBox {
+    ghost wrapped = { boxes.ChanBox };
+
+    fn wrap(value: ChanBox) -> ExtraBox {
+        ExtraBox::ChanBox(value)
+    }
+}
+
+impl Holds<ChnlBox> for ExtraBox {
+    ghost wrapped = { boxes.ChnlBox };
+
+    fn wrap(value: ChnlBox) -> ExtraBox {
+        ExtraBox::ChnlBox(value)
     }
 }
 
@@ -445,11 +589,43 @@ impl Holds<DopsBox> for ExtraBox {
     }
 }
 
+impl Holds<DvccBox> for ExtraBox {
+    ghost wrapped = { boxes.DvccBox };
+
+    fn wrap(value: DvccBox) -> ExtraBox {
+        ExtraBox::DvccBox(value)
+    }
+}
+
+impl Holds<DvvcBox> for ExtraBox {
+    ghost wrapped = { boxes.DvvcBox };
+
+    fn wrap(value: DvvcBox) -> ExtraBox {
+        ExtraBox::DvvcBox(value)
+    }
+}
+
 impl Holds<ElngBox> for ExtraBox {
     ghost wrapped = { boxes.ElngBox };
 
     fn wrap(value: ElngBox) -> ExtraBox {
         ExtraBox::ElngBox(value)
+    }
+}
+
+impl Holds<EndaBox> for ExtraBox {
+    ghost wrapped = { boxes.EndaBox };
+
+    fn wrap(value: EndaBox) -> ExtraBox {
+        ExtraBox::EndaBox(value)
+    }
+}
+
+impl Holds<FielBox> for ExtraBox {
+    ghost wrapped = { boxes.FielBox };
+
+    fn wrap(value: FielBox) -> ExtraBox {
+        ExtraBox::FielBox(value)
     }
 }
 
@@ -461,11 +637,83 @@ impl Holds<FrmaBox> for ExtraBox {
     }
 }
 
+impl Holds<GminBox> for ExtraBox {
+    ghost wrapped = { boxes.GminBox };
+
+    fn wrap(value: GminBox) -> ExtraBox {
+        ExtraBox::GminBox(value)
+    }
+}
+
+impl Holds<HmhdBox> for ExtraBox {
+    ghost wrapped = { boxes.HmhdBox };
+
+    fn wrap(value: HmhdBox) -> ExtraBox {
+        ExtraBox::HmhdBox(value)
+    }
+}
+
 impl Holds<HvccBox> for ExtraBox {
     ghost wrapped = { boxes.HvccBox };
 
     fn wrap(value: HvccBox) -> ExtraBox {
         ExtraBox::HvccBox(value)
+    }
+}
+
+impl Holds<IlocBox> for ExtraBox {
+    ghost wrapped = { boxes.IlocBox };
+
+    fn wrap(value: IlocBox) -> ExtraBox {
+        ExtraBox::IlocBox(value)
+    }
+}
+
+impl Holds<ImirBox> for ExtraBox {
+    ghost wrapped = { boxes.ImirBox };
+
+    fn wrap(value: ImirBox) -> ExtraBox {
+        ExtraBox::ImirBox(value)
+    }
+}
+
+impl Holds<InfeBox> for ExtraBox {
+    ghost wrapped = { boxes.InfeBox };
+
+    fn wrap(value: InfeBox) -> ExtraBox {
+        ExtraBox::InfeBox(value)
+    }
+}
+
+impl Holds<IodsBox> for ExtraBox {
+    ghost wrapped = { boxes.IodsBox };
+
+    fn wrap(value: IodsBox) -> ExtraBox {
+        ExtraBox::IodsBox(value)
+    }
+}
+
+impl Holds<IpmaBox> for ExtraBox {
+    ghost wrapped = { boxes.IpmaBox };
+
+    fn wrap(value: IpmaBox) -> ExtraBox {
+        ExtraBox::IpmaBox(value)
+    }
+}
+
+impl Holds<IrotBox> for ExtraBox {
+    ghost wrapped = { boxes.IrotBox };
+
+    fn wrap(value: IrotBox) -> ExtraBox {
+        ExtraBox::IrotBox(value)
+    }
+}
+
+impl Holds<IspeBox> for ExtraBox {
+    ghost wrapped = { boxes.IspeBox };
+
+    fn wrap(value: IspeBox) -> ExtraBox {
+        ExtraBox::IspeBox(value)
     }
 }
 
@@ -485,6 +733,14 @@ impl Holds<KindBox> for ExtraBox {
     }
 }
 
+impl Holds<LevaBox> for ExtraBox {
+    ghost wrapped = { boxes.LevaBox };
+
+    fn wrap(value: LevaBox) -> ExtraBox {
+        ExtraBox::LevaBox(value)
+    }
+}
+
 impl Holds<MdcvBox> for ExtraBox {
     ghost wrapped = { boxes.MdcvBox };
 
@@ -493,11 +749,27 @@ impl Holds<MdcvBox> for ExtraBox {
     }
 }
 
+impl Holds<MeanBox> for ExtraBox {
+    ghost wrapped = { boxes.MeanBox };
+
+    fn wrap(value: MeanBox) -> ExtraBox {
+        ExtraBox::MeanBox(value)
+    }
+}
+
 impl Holds<MfroBox> for ExtraBox {
     ghost wrapped = { boxes.MfroBox };
 
     fn wrap(value: MfroBox) -> ExtraBox {
         ExtraBox::MfroBox(value)
+    }
+}
+
+impl Holds<NameBox> for ExtraBox {
+    ghost wrapped = { boxes.NameBox };
+
+    fn wrap(value: NameBox) -> ExtraBox {
+        ExtraBox::NameBox(value)
     }
 }
 
@@ -514,6 +786,22 @@ impl Holds<PaspBox> for ExtraBox {
 
     fn wrap(value: PaspBox) -> ExtraBox {
         ExtraBox::PaspBox(value)
+    }
+}
+
+impl Holds<PitmBox> for ExtraBox {
+    ghost wrapped = { boxes.PitmBox };
+
+    fn wrap(value: PitmBox) -> ExtraBox {
+        ExtraBox::PitmBox(value)
+    }
+}
+
+impl Holds<PixiBox> for ExtraBox {
+    ghost wrapped = { boxes.PixiBox };
+
+    fn wrap(value: PixiBox) -> ExtraBox {
+        ExtraBox::PixiBox(value)
     }
 }
 
@@ -597,6 +885,30 @@ impl Holds<SidxBox> for ExtraBox {
     }
 }
 
+impl Holds<SratBox> for ExtraBox {
+    ghost wrapped = { boxes.SratBox };
+
+    fn wrap(value: SratBox) -> ExtraBox {
+        ExtraBox::SratBox(value)
+    }
+}
+
+impl Holds<SsixBox> for ExtraBox {
+    ghost wrapped = { boxes.SsixBox };
+
+    fn wrap(value: SsixBox) -> ExtraBox {
+        ExtraBox::SsixBox(value)
+    }
+}
+
+impl Holds<SthdBox> for ExtraBox {
+    ghost wrapped = { boxes.SthdBox };
+
+    fn wrap(value: SthdBox) -> ExtraBox {
+        ExtraBox::SthdBox(value)
+    }
+}
+
 impl Holds<StppBox> for ExtraBox {
     ghost wrapped = { boxes.StppBox };
 
@@ -629,11 +941,27 @@ impl Holds<SubsBox> for ExtraBox {
     }
 }
 
+impl Holds<TcmiBox> for ExtraBox {
+    ghost wrapped = { boxes.TcmiBox };
+
+    fn wrap(value: TcmiBox) -> ExtraBox {
+        ExtraBox::TcmiBox(value)
+    }
+}
+
 impl Holds<TencBox> for ExtraBox {
     ghost wrapped = { boxes.TencBox };
 
     fn wrap(value: TencBox) -> ExtraBox {
         ExtraBox::TencBox(value)
+    }
+}
+
+impl Holds<TextBox> for ExtraBox {
+    ghost wrapped = { boxes.TextBox };
+
+    fn wrap(value: TextBox) -> ExtraBox {
+        ExtraBox::TextBox(value)
     }
 }
 
@@ -650,6 +978,14 @@ impl Holds<TrefBox> for ExtraBox {
 
     fn wrap(value: TrefBox) -> ExtraBox {
         ExtraBox::TrefBox(value)
+    }
+}
+
+impl Holds<VvccBox> for ExtraBox {
+    ghost wrapped = { boxes.VvccBox };
+
+    fn wrap(value: VvccBox) -> ExtraBox {
+        ExtraBox::VvccBox(value)
     }
 }
 

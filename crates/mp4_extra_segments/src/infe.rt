@@ -1,7 +1,8 @@
 //! The item information entry.
 
 ghost use Rattle.mp4_extra_segments.specs.ShownItems.{is_type};
-ghost use Rattle.mp4_extra_segments.specs.declared.infe.TheConstants.{INFE, MIME, NAMES, URI};
+ghost use Rattle.mp4_extra_segments.specs.declared.infe.TheConstants.{MIME, NAMES, URI};
+ghost use Rattle.mp4_frame.specs.declared.codes.TheConstants as codes;
 ghost use Rattle.mp4_declared.specs.OwnBox.{layout_of};
 ghost use Rattle.std.proofs.Common.{refl, lit<};
 ghost use Rattle.std.specs.Prelude.{◌≡◌};
@@ -9,13 +10,10 @@ ghost use Rattle.std.specs.Prelude.{◌≡◌};
 use crate::item_id::ItemId;
 use mp4_declared::Code;
 use mp4_declared::declaring::*;
-use mp4_frame::{FourCC, Result};
+use mp4_frame::{FourCC, Result, codes};
 use mp4_shown::{
     FieldSink, HasFields, Meaning, NamedBy, NamedShape, VERSION, View, number, run, show_shape,
 };
-
-/// The code: `infe`.
-pub const INFE: u32 = 0x696e_6665;
 
 /// The `item_type` of items with a media type: `mime`.
 pub const MIME: u32 = 0x6d69_6d65;
@@ -62,11 +60,11 @@ impl DeclaredBox for Infe {
 
     type Shape = InfeShape;
 
-    ghost CODE = { INFE };
+    ghost CODE = { codes.INFE };
 
     ghost layout = { layout_of struct (λ _. tt) (λ _. refl) (lit< tt) };
 
-    const CODE: u32 = INFE;
+    const CODE: u32 = codes::INFE;
 
     fn from_content(found: <InfeShape as Shape>::Value) -> Infe {
         box_of!(found => Infe { version, flags, item_id, item_protection_index, item_type, item_name, strings })

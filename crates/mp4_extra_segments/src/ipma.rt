@@ -1,7 +1,8 @@
 //! The item property association box.
 
 ghost use Rattle.mp4_extra_segments.specs.ItemId.{item_width, some_item};
-ghost use Rattle.mp4_extra_segments.specs.declared.ipma.TheConstants.{ENTRY, IPMA, LONG, NAMES, SHORT};
+ghost use Rattle.mp4_extra_segments.specs.declared.ipma.TheConstants.{ENTRY, LONG, NAMES, SHORT};
+ghost use Rattle.mp4_frame.specs.declared.codes.TheConstants as codes;
 ghost use Rattle.mp4_declared.specs.DeclaredEntry.{exact_layout_of};
 ghost use Rattle.mp4_declared.specs.DeclaredEntryLaws.{some_first};
 ghost use Rattle.mp4_declared.specs.OwnBox.{layout_of};
@@ -14,14 +15,11 @@ ghost use Rattle.std.specs.Prelude.{bit_and, ◌==◌};
 use crate::item_id::ItemId;
 use mp4_declared::declaring::*;
 use mp4_declared::{Condition, Context, clone_each};
-use mp4_frame::Result;
+use mp4_frame::{Result, codes};
 use mp4_shown::{
     FieldSink, HasFields, Meaning, NamedShape, NumberName, ShowShape, ShownEntry, VERSION, View,
     list, names_of, number, show_shape,
 };
-
-/// The code: `ipma`.
-pub const IPMA: u32 = 0x6970_6d61;
 
 /// The condition that no flag of `MASK` is set.
 pub struct WithoutFlags<const MASK: u32>;
@@ -208,11 +206,11 @@ impl DeclaredBox for Ipma {
 
     type Shape = IpmaShape;
 
-    ghost CODE = { IPMA };
+    ghost CODE = { codes.IPMA };
 
     ghost layout = { layout_of struct (λ _. tt) (λ _. refl) (lit< tt) };
 
-    const CODE: u32 = IPMA;
+    const CODE: u32 = codes::IPMA;
 
     fn from_content(found: <IpmaShape as Shape>::Value) -> Ipma {
         box_of!(found => Ipma { version, flags, entries })

@@ -1,17 +1,15 @@
 //! The level assignment box.
 
-ghost use Rattle.mp4_extra_segments.specs.declared.leva.TheConstants.{LEVA, NAMES};
+ghost use Rattle.mp4_extra_segments.specs.declared.leva.TheConstants.{NAMES};
+ghost use Rattle.mp4_frame.specs.declared.codes.TheConstants as codes;
 ghost use Rattle.mp4_declared.specs.OwnBox.{layout_of};
 ghost use Rattle.std.proofs.Common.{refl, lit<};
 
 use mp4_declared::declaring::*;
-use mp4_frame::Result;
+use mp4_frame::{Result, codes};
 use mp4_shown::{
     FLAGS, FieldSink, HasFields, NamedShape, ShowShape, VERSION, View, names_of, number, run,
 };
-
-/// The code: `leva`.
-pub const LEVA: u32 = 0x6c65_7661;
 
 /// The levels into which fragments are divided (`leva`, ISO/IEC 14496-12, 8.8.13).
 #[derive(Debug, Drop, PartialEq, Eq)]
@@ -37,11 +35,11 @@ impl DeclaredBox for Leva {
 
     type Shape = LevaShape;
 
-    ghost CODE = { LEVA };
+    ghost CODE = { codes.LEVA };
 
     ghost layout = { layout_of struct (λ _. tt) (λ _. refl) (lit< tt) };
 
-    const CODE: u32 = LEVA;
+    const CODE: u32 = codes::LEVA;
 
     fn from_content(found: <LevaShape as Shape>::Value) -> Leva {
         box_of!(found => Leva { version, flags, level_count, levels })

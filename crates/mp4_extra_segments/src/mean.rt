@@ -1,15 +1,13 @@
 //! The domain box of a metadata item.
 
-ghost use Rattle.mp4_extra_segments.specs.declared.mean.TheConstants.{MEAN, NAMES};
+ghost use Rattle.mp4_extra_segments.specs.declared.mean.TheConstants.{NAMES};
+ghost use Rattle.mp4_frame.specs.declared.codes.TheConstants as codes;
 ghost use Rattle.mp4_declared.specs.OwnBox.{layout_of};
 ghost use Rattle.std.proofs.Common.{refl, lit<};
 
 use mp4_declared::declaring::*;
-use mp4_frame::Result;
+use mp4_frame::{Result, codes};
 use mp4_shown::{FLAGS, FieldSink, HasFields, NamedShape, ShowShape, VERSION, View, names_of, run};
-
-/// The code: `mean`.
-pub const MEAN: u32 = 0x6d65_616e;
 
 /// The domain of the name of a metadata item (`mean`, iTunes, metadata). The item has the code `----`, and a `name`
 /// beside this box.
@@ -31,11 +29,11 @@ impl DeclaredBox for Mean {
 
     type Shape = MeanShape;
 
-    ghost CODE = { MEAN };
+    ghost CODE = { codes.MEAN };
 
     ghost layout = { layout_of struct (λ _. tt) (λ _. refl) (lit< tt) };
 
-    const CODE: u32 = MEAN;
+    const CODE: u32 = codes::MEAN;
 
     fn from_content(found: <MeanShape as Shape>::Value) -> Mean {
         box_of!(found => Mean { version, flags, value })

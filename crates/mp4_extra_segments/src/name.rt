@@ -1,15 +1,13 @@
 //! The name box of a metadata item.
 
-ghost use Rattle.mp4_extra_segments.specs.declared.name.TheConstants.{NAME, NAMES};
+ghost use Rattle.mp4_extra_segments.specs.declared.name.TheConstants.{NAMES};
+ghost use Rattle.mp4_frame.specs.declared.codes.TheConstants as codes;
 ghost use Rattle.mp4_declared.specs.OwnBox.{layout_of};
 ghost use Rattle.std.proofs.Common.{refl, lit<};
 
 use mp4_declared::declaring::*;
-use mp4_frame::Result;
+use mp4_frame::{Result, codes};
 use mp4_shown::{FLAGS, FieldSink, HasFields, NamedShape, ShowShape, VERSION, View, names_of, run};
-
-/// The code: `name`.
-pub const NAME: u32 = 0x6e61_6d65;
 
 /// The name of a metadata item (`name`, iTunes, metadata). The item has the code `----`, and a `mean` beside this box.
 /// A `name` elsewhere, such as the name of a track in QuickTime, is another box.
@@ -31,11 +29,11 @@ impl DeclaredBox for Name {
 
     type Shape = NameShape;
 
-    ghost CODE = { NAME };
+    ghost CODE = { codes.TAG_NAME };
 
     ghost layout = { layout_of struct (λ _. tt) (λ _. refl) (lit< tt) };
 
-    const CODE: u32 = NAME;
+    const CODE: u32 = codes::TAG_NAME;
 
     fn from_content(found: <NameShape as Shape>::Value) -> Name {
         box_of!(found => Name { version, flags, value })

@@ -1,18 +1,16 @@
 //! The primary item box.
 
-ghost use Rattle.mp4_extra_segments.specs.declared.pitm.TheConstants.{NAMES, PITM};
+ghost use Rattle.mp4_extra_segments.specs.declared.pitm.TheConstants.{NAMES};
+ghost use Rattle.mp4_frame.specs.declared.codes.TheConstants as codes;
 ghost use Rattle.mp4_declared.specs.OwnBox.{layout_of};
 ghost use Rattle.std.proofs.Common.{refl, lit<};
 
 use crate::item_id::ItemId;
 use mp4_declared::declaring::*;
-use mp4_frame::Result;
+use mp4_frame::{Result, codes};
 use mp4_shown::{
     FLAGS, FieldSink, HasFields, NamedShape, ShowShape, VERSION, View, names_of, number,
 };
-
-/// The code: `pitm`.
-pub const PITM: u32 = 0x7069_746d;
 
 /// The item to show first, such as the main image of a file (`pitm`, ISO/IEC 14496-12, 8.11.4).
 #[derive(Clone, Copy, Debug, Drop, PartialEq, Eq)]
@@ -33,11 +31,11 @@ impl DeclaredBox for Pitm {
 
     type Shape = PitmShape;
 
-    ghost CODE = { PITM };
+    ghost CODE = { codes.PITM };
 
     ghost layout = { layout_of struct (λ _. tt) (λ _. refl) (lit< tt) };
 
-    const CODE: u32 = PITM;
+    const CODE: u32 = codes::PITM;
 
     fn from_content(found: <PitmShape as Shape>::Value) -> Pitm {
         box_of!(found => Pitm { version, flags, item_id })
