@@ -343,6 +343,84 @@ pub const TENC: u32 = 0x7465_6e63;
 pub const TFRA: u32 = 0x7466_7261;
 /// `iloc`.
 pub const ILOC: u32 = 0x696c_6f63;
+/// `fiel`.
+pub const FIEL: u32 = 0x6669_656c;
+/// `chan`.
+pub const CHAN: u32 = 0x6368_616e;
+/// `enda`.
+pub const ENDA: u32 = 0x656e_6461;
+/// `gmin`.
+pub const GMIN: u32 = 0x676d_696e;
+/// `tcmi`.
+pub const TCMI: u32 = 0x7463_6d69;
+/// `text`.
+pub const TEXT: u32 = 0x7465_7874;
+/// `dvcC`.
+pub const DVCC: u32 = 0x6476_6343;
+/// `dvvC`.
+pub const DVVC: u32 = 0x6476_7643;
+/// `chnl`.
+pub const CHNL: u32 = 0x6368_6e6c;
+/// `srat`.
+pub const SRAT: u32 = 0x7372_6174;
+/// `vvcC`.
+pub const VVCC: u32 = 0x7676_6343;
+/// `ispe`.
+pub const ISPE: u32 = 0x6973_7065;
+/// `pixi`.
+pub const PIXI: u32 = 0x7069_7869;
+/// `irot`.
+pub const IROT: u32 = 0x6972_6f74;
+/// `imir`.
+pub const IMIR: u32 = 0x696d_6972;
+/// `auxC`.
+pub const AUXC: u32 = 0x6175_7843;
+/// `infe`.
+pub const INFE: u32 = 0x696e_6665;
+/// `ipma`.
+pub const IPMA: u32 = 0x6970_6d61;
+/// `pitm`.
+pub const PITM: u32 = 0x7069_746d;
+/// `mean`.
+pub const MEAN: u32 = 0x6d65_616e;
+/// `name`.
+pub const TAG_NAME: u32 = 0x6e61_6d65;
+/// `leva`.
+pub const LEVA: u32 = 0x6c65_7661;
+/// `assp`.
+pub const ASSP: u32 = 0x6173_7370;
+/// `cprt`.
+pub const CPRT: u32 = 0x6370_7274;
+/// `loci`.
+pub const LOCI: u32 = 0x6c6f_6369;
+/// `ACLR`.
+pub const ACLR: u32 = 0x4143_4c52;
+/// `alis`.
+pub const ALIS: u32 = 0x616c_6973;
+/// `rsrc`.
+pub const RSRC: u32 = 0x7273_7263;
+/// `urn `.
+pub const URN: u32 = 0x7572_6e20;
+/// `dvh1`.
+pub const DVH1: u32 = 0x6476_6831;
+/// `dvhe`.
+pub const DVHE: u32 = 0x6476_6865;
+/// `dvav`.
+pub const DVAV: u32 = 0x6476_6176;
+/// `dva1`.
+pub const DVA1: u32 = 0x6476_6131;
+/// `dtsc`.
+pub const DTSC: u32 = 0x6474_7363;
+/// `dtse`.
+pub const DTSE: u32 = 0x6474_7365;
+/// `dtsh`.
+pub const DTSH: u32 = 0x6474_7368;
+/// `dtsl`.
+pub const DTSL: u32 = 0x6474_736c;
+/// `c608`.
+pub const C608: u32 = 0x6336_3038;
+/// `c708`.
+pub const C708: u32 = 0x6337_3038;
 
 // Handlers.
 
