@@ -21,4 +21,5 @@ def version_1():
 
 def fields_of_a_domain():
     """iTunes, metadata."""
-    yield fields(full(b"mean", b"com.apple.iTunes", flags=0x01_0203), version=0, flags=66051, value="com.apple.iTunes")
+    domain = full(b"mean", b"com.apple.iTunes", flags=0x01_0203)
+    yield fields(box(b"ilst", box(b"----", domain)), version=0, flags=66051, value="com.apple.iTunes")

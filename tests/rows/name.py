@@ -21,6 +21,8 @@ def version_1():
 
 def fields_of_names():
     """iTunes, metadata."""
-    yield fields(full(b"name", b"iTunSMPB", flags=0x02_0304), version=0, flags=131844, value="iTunSMPB")
+    name = full(b"name", b"iTunSMPB", flags=0x02_0304)
+    yield fields(box(b"ilst", box(b"----", name)), version=0, flags=131844, value="iTunSMPB")
     # Take bytes that aren't UTF-8.
-    yield fields(full(b"name", b"a\xff"), version=0, flags=0, value="a\ufffd", value_hex="61ff")
+    name = full(b"name", b"a\xff")
+    yield fields(box(b"ilst", box(b"----", name)), version=0, flags=0, value="a\ufffd", value_hex="61ff")

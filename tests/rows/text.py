@@ -16,4 +16,5 @@ def fields_of_a_place():
     """QuickTime File Format, "Text media information atom"."""
     # Takes numbers of 16.16 bits, and u, v and w of 2.30 bits. The negative ones are -0x8000, -0x20000000 and -0x60000.
     rows = u32(0x1_0000, 0xFFFF_8000, 0x4000_0000, 0x2_0000, 0x3_4000, 0xE000_0000, 0x5_0000, 0xFFFA_0000, 0x1000_0000)
-    yield fields(box(b"text", rows), a=1.0, b=-0.5, u=1.0, c=2.0, d=3.25, v=-0.5, x=5.0, y=-6.0, w=0.25)
+    text = box(b"text", rows)
+    yield fields(box(b"gmhd", text), a=1.0, b=-0.5, u=1.0, c=2.0, d=3.25, v=-0.5, x=5.0, y=-6.0, w=0.25)
