@@ -2,7 +2,6 @@
 finds."""
 
 import json
-import re
 from functools import partial
 
 from tests.readers.extra import Fields
@@ -53,12 +52,24 @@ def differences(row, texts):
         yield "places by hand", row.places, texts[PLACES]
 
 
+def pairs_of(value):
+    """Returns `value` with each dictionary as a list of pairs, and each number with a fraction as its text."""
+    if isinstance(value, dict):
+        return [[name, pairs_of(it)] for name, it in value.items()]
+    if isinstance(value, list):
+        return [pairs_of(it) for it in value]
+    return repr(value) if isinstance(value, float) else value
+
+
 def fields_otherwise(row, printed):
-    """Returns the fields that `row` expects, and those that `mp4inspect --json` printed of the box, both as JSON."""
-    found = re.fullmatch(r'\[\{"file":"-","boxes":\[\{"type":.{4,24}?,"position":0,.*?"fields":(.*)\}\]\}\]\s*',
-                         printed, re.S)
-    wanted = json.dumps(row.fields, ensure_ascii=False, separators=(",", ":"))
-    return wanted, found[1] if found else printed
+    """Returns the fields that `row` expects, and those that `mp4inspect --json` printed of the box, or of the last box
+    inside it. Both are texts of pairs, so that the order of names counts."""
+    pairs = json.loads(printed, object_pairs_hook=lambda found: list(map(list, found)), parse_float=str)
+    level = dict(pairs[0]).get("boxes")
+    while level:
+        found = dict(level[-1])
+        level = found.get("children")
+    return json.dumps(pairs_of(row.fields)), json.dumps(found.get("fields"))
 
 
 def outcome_by_layout(read, buffer, position):

@@ -385,6 +385,8 @@ pub const PITM: u32 = 0x7069_746d;
 pub const MEAN: u32 = 0x6d65_616e;
 /// `name`.
 pub const TAG_NAME: u32 = 0x6e61_6d65;
+/// `----`, a tag with a domain and a name.
+pub const FREE_FORM: u32 = 0x2d2d_2d2d;
 /// `leva`.
 pub const LEVA: u32 = 0x6c65_7661;
 /// `assp`.
