@@ -29,7 +29,7 @@ impl Condition for VersionZero {
 /// The structure of a sound in version 1.
 #[derive(Clone, Copy, Debug, Default, PartialEq, Eq)]
 pub struct ChannelStructure {
-    /// What the sound consists of: 1 for channels, 2 for objects, 3 for both. 4 bits.
+    /// The parts of the sound: 1 for channels, 2 for objects, 3 for both. 4 bits.
     pub stream_structure: u8,
     /// The order of channels and objects. 4 bits.
     pub format_ordering: u8,
@@ -67,7 +67,7 @@ pub struct Chnl {
     pub version: u8,
     /// 24 bits, 0 in the standard.
     pub flags: u32,
-    /// What the sound consists of: 1 for channels, 2 for objects, 3 for both. `None` in version 1.
+    /// The parts of the sound: 1 for channels, 2 for objects, 3 for both. `None` in version 1.
     pub stream_structure: Option<u8>,
     /// The structure of the sound. `None` in version 0.
     pub structure: Option<ChannelStructure>,
