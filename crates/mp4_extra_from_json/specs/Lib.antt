@@ -1,0 +1,4 @@
+pub mod Entries
+pub mod Media
+pub mod Samples
+pub mod Segments

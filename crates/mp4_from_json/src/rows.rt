@@ -1,0 +1,66 @@
+//! Counted lists of rows of bytes.
+
+ghost use Rattle.std.specs.Prelude.{◌≡◌, ◌^◌};
+ghost use Rattle.json.specs.Value.{items_view, value_view};
+ghost use Rattle.mp4_from_json.specs.Lists.{bytes_entry, each_taken, entries_taken, list_below};
+ghost use Rattle.mp4_from_json.specs.Taking.{TakesAs};
+ghost use Rattle.mp4_from_json.specs.Values.{sized_hex_in};
+
+use crate::error::{Reason, Result, refuse};
+use crate::list::take_list_of;
+use crate::object::Object;
+use crate::take::TakeShape;
+use hex::{FromHex, FromHexError};
+use json::Value;
+use mp4_declared::{Context, Count, Rows};
+use mp4_frame::Entries;
+use mp4_shown::ListName;
+use std::alloc::Global;
+
+/// Returns the `E` bytes whose hexadecimal digits are the text `value`.
+fn row_in<const E: usize>(value: &Value<'_>) -> std::result::Result<[u8; E], Reason>
+    ensures { result ≡ sized_hex_in E (value_view value.now) }
+{
+    let Some(digits) = value.as_str() else {
+        return Err(Reason::NotHex);
+    };
+    match <[u8; E]>::from_hex(digits) {
+        Ok(row) => Ok(row),
+        Err(FromHexError::InvalidStringLength) => Err(Reason::WrongLength),
+        Err(_) => Err(Reason::NotHex),
+    }
+}
+
+/// Returns the rows that `items` are. `name` is the name of their list.
+fn rows_in<const E: usize>(
+    alloc: Global,
+    name: &str,
+    items: &[Value<'_>],
+) -> Result<Entries<[u8; E]>>
+    ensures { TakesAs (λ rows. rows) result (each_taken (bytes_entry E) name.now 0 (items_view items.now)) }
+{
+    let mut rows = Vec::new(alloc);
+    for index in 0..items.len() {
+        match row_in::<E>(&items[index]) {
+            Ok(row) => rows.push(row)?,
+            Err(reason) => return Err(refuse(alloc, "", reason).in_entry(alloc, name, index)),
+        }
+    }
+    Ok(rows.into())
+}
+
+impl<C: Count, const E: usize> TakeShape for Rows<C, E> {
+    type Taken = Entries<[u8; E]>;
+
+    ghost taken = { λ name c ms. entries_taken (bytes_entry E) name (list_below (256 ^ C.WIDTH) name ms) };
+
+    fn take(
+        alloc: Global,
+        name: ListName,
+        _context: Context,
+        object: &mut Object<'_>,
+    ) -> Result<Entries<[u8; E]>> {
+        let items = take_list_of::<C>(alloc, name, object)?;
+        rows_in::<E>(alloc, name.0, items.as_slice())
+    }
+}
