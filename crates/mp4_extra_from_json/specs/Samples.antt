@@ -19,7 +19,7 @@ use Rattle.mp4_from_json.specs.Lists.{length_of}
 use Rattle.mp4_from_json.specs.Numbers.{number_taken, numbers_taken, signed_taken}
 use Rattle.mp4_from_json.specs.Object.{take_one, has}
 use Rattle.mp4_from_json.specs.Pieces.{pieces_taken}
-use Rattle.mp4_from_json.specs.Runs.{items_in, run_taken, run_if, small_items}
+use Rattle.mp4_from_json.specs.Runs.{each_taken, items_in, run_taken, run_if, small_in}
 use Rattle.mp4_from_json.specs.Shapes.{Takes, map_taken}
 use Rattle.mp4_from_json.specs.Taking.{Taking, expect, ◌>>=◌}
 use Rattle.mp4_from_json.specs.declared.error.Reason.TheVariants as reasons
@@ -134,7 +134,7 @@ sizes_taken bits count ms =
     take_one stz2.NAMES.1.1.1.1.0.now ms >>= λ p. items_in stz2.NAMES.1.1.1.1.0.now p.0 >>= λ js.
     expect (length_of js == count) stz2.NAMES.1.1.1.0.0.now reasons.Contradiction >>= λ _.
     expect ((bits == 4) || ((bits == 8) || (bits == 16))) stz2.NAMES.1.1.0.0.now reasons.OutOfRange >>= λ _.
-    small_items bits stz2.NAMES.1.1.1.1.0.now 0 js >>= λ ns.
+    each_taken (small_in bits []) stz2.NAMES.1.1.1.1.0.now 0 js >>= λ ns.
     number_taken stz2.NAMES.1.1.1.1.1.0 4 p.1 >>= λ q.
     expect (may_pad bits count q.0) stz2.NAMES.1.1.1.1.1.0.0.now reasons.OutOfRange >>= λ _.
     run_taken stz2.NAMES.1.1.1.1.1.1.1 q.1 >>= λ r. Ok (sizes_of bits q.0 ns ++ r.0, r.1)

@@ -8,6 +8,7 @@ use mp4_declared::{Bits, EntryLayout};
 use mp4_extra_media::dec3::{
     self, Dec3, Ec3Config, PARENT, PARENT_WIDTHS, STREAM, STREAM_WIDTHS, Streams,
 };
+use mp4_frame::Entries;
 use mp4_from_json::{
     NO_CONTEXT, Object, Result, TakeFields, TakePieces, TakeShape, end_object, object_in,
     take_numbers, take_pieces,
@@ -33,11 +34,11 @@ fn take_stream(alloc: Global, object: &mut Object<'_>) -> Result<Vec<u8>> {
 impl TakePieces for Streams {
     ghost taken = { λ streams j. stream_taken j };
 
-    fn take(&self, alloc: Global, value: Value<'_>) -> Result<Vec<u8>> {
+    fn take(&self, alloc: Global, value: Value<'_>) -> Result<Entries<u8>> {
         let mut object = object_in(alloc, "", value)?;
         let bytes = take_stream(alloc, &mut object)?;
         end_object(alloc, &object)?;
-        Ok(bytes)
+        Ok(bytes.into())
     }
 }
 
@@ -49,7 +50,7 @@ impl TakeFields for Dec3 {
             Bits::<Ec3Config, 2, 2>::take(alloc, dec3::NAMES.0, NO_CONTEXT, object)?;
         let count = u64::from(config.num_ind_sub) + 1;
         let substreams =
-            take_pieces(alloc, dec3::NAMES.1, &Streams, "num_ind_sub", count, object)?;
+            take_pieces(alloc, dec3::NAMES.1, Streams, "num_ind_sub", count, object)?;
         Ok(Dec3 { config, substreams })
     }
 }

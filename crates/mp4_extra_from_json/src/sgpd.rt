@@ -11,6 +11,7 @@ use mp4_extra_samples::sgpd::{
     self, CONSTANT_IV, DESCRIPTION_LENGTH, Descriptions, ENCRYPTION, GroupKind, KID, LEADING,
     LEVEL, ROLL_DISTANCE, Sgpd, UNKNOWN, kind_of, usual_size,
 };
+use mp4_frame::Entries;
 use mp4_from_json::{
     NO_CONTEXT, Object, Reason, Result, TakeFields, TakePieces, TakeShape, end_object, object_in,
     refuse, take_bytes, take_numbers, take_pieces, take_signed,
@@ -122,11 +123,11 @@ fn take_piece(
 impl TakePieces for Descriptions {
     ghost taken = { description_taken };
 
-    fn take(&self, alloc: Global, value: Value<'_>) -> Result<Vec<u8>> {
+    fn take(&self, alloc: Global, value: Value<'_>) -> Result<Entries<u8>> {
         let mut object = object_in(alloc, "", value)?;
         let bytes = take_piece(alloc, self, &mut object)?;
         end_object(alloc, &object)?;
-        Ok(bytes)
+        Ok(bytes.into())
     }
 }
 
@@ -146,7 +147,7 @@ impl TakeFields for Sgpd {
         let count_name = sgpd::NAMES.1.1.1.1.1.0.0;
         let pieces_names = sgpd::NAMES.1.1.1.1.1.1;
         let count = u64::from(entry_count);
-        let entries = take_pieces(alloc, pieces_names, &descriptions, count_name, count, object)?;
+        let entries = take_pieces(alloc, pieces_names, descriptions, count_name, count, object)?;
         Ok(Sgpd {
             version,
             flags,

@@ -8,6 +8,7 @@ use crate::big_endian::push_number;
 use json::Value;
 use mp4_declared::{Bits, Full, Last, U32};
 use mp4_extra_segments::tfra::{self, ACCESS, Accesses, Tfra, TfraLengths};
+use mp4_frame::Entries;
 use mp4_from_json::{
     NO_CONTEXT, Object, Result, TakeFields, TakePieces, TakeShape, end_object, object_in,
     take_number, take_pieces,
@@ -45,11 +46,11 @@ fn take_access(alloc: Global, accesses: &Accesses, object: &mut Object<'_>) -> R
 impl TakePieces for Accesses {
     ghost taken = { access_taken };
 
-    fn take(&self, alloc: Global, value: Value<'_>) -> Result<Vec<u8>> {
+    fn take(&self, alloc: Global, value: Value<'_>) -> Result<Entries<u8>> {
         let mut object = object_in(alloc, "", value)?;
         let bytes = take_access(alloc, self, &mut object)?;
         end_object(alloc, &object)?;
-        Ok(bytes)
+        Ok(bytes.into())
     }
 }
 
@@ -65,7 +66,7 @@ impl TakeFields for Tfra {
         let count_name = tfra::NAMES.1.1.1.1.0.0;
         let pieces_names = tfra::NAMES.1.1.1.1.1;
         let count = u64::from(number_of_entry);
-        let entries = take_pieces(alloc, pieces_names, &accesses, count_name, count, object)?;
+        let entries = take_pieces(alloc, pieces_names, accesses, count_name, count, object)?;
         Ok(Tfra {
             version,
             flags,

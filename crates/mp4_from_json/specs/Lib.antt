@@ -9,3 +9,5 @@ pub mod Runs
 pub mod Lists
 pub mod Pieces
 pub mod Shapes
+pub mod Shown
+pub mod Back

@@ -9,8 +9,8 @@ use Rattle.mp4_shown.specs.declared.list_name.ListAs.{ListAs}
 use Rattle.mp4_shown.specs.declared.list_name.ListAs.TheVariants as list_as
 use Rattle.mp4_from_json.specs.Numbers.{at_path, numbers_taken}
 use Rattle.mp4_from_json.specs.Object.{take_out, take_one, is_number, members_in, all_of}
-use Rattle.mp4_from_json.specs.Runs.{items_in}
-use Rattle.mp4_from_json.specs.Taking.{Taking, refused, expect, within, entry_path, ◌>>=◌}
+use Rattle.mp4_from_json.specs.Runs.{each_taken, items_in}
+use Rattle.mp4_from_json.specs.Taking.{Taking, refused, expect, ◌>>=◌}
 use Rattle.mp4_from_json.specs.Values.{code_in, number_in, sized_hex_in, whole_in}
 use Rattle.mp4_from_json.specs.declared.error.Reason.{Reason}
 use Rattle.mp4_from_json.specs.declared.error.Reason.TheVariants as reasons
@@ -29,12 +29,6 @@ abbrev pub code_taken : List ℕ → Members → Taking (FourCC × Members)
 code_taken name ms = take_one name ms >>= λ p. code_or name (code_in p.0) >>= λ c. Ok (c, p.1)
 
 -- ---- lists
-
--- what is taken from each entry, the first of which has the index i
-abbrev pub each_taken : {X : Type 0} → (Json → Taking X) → List ℕ → ℕ → Items → Taking (List X)
-each_taken taken name i no_items = Ok []
-each_taken taken name i (item j js) =
-    within (entry_path name i) (taken j) >>= λ x. each_taken taken name (i + 1) js >>= λ xs. Ok (x ∷ xs)
 
 -- a count, if it is there, is the number of entries
 abbrev pub count_agrees : List ℕ → ℕ → Option Json → Taking (Unit {0})

@@ -64,12 +64,15 @@ meaning_after (number_as.Fixed bits) name meanings n ms = Ok ms
 meaning_after (number_as.Hex count) name meanings n ms = Ok ms
 meaning_after (number_as.Reserved usual) name meanings n ms = Ok ms
 
+abbrev pub number_by : List ℕ → NumberAs → List Meaning → ℕ → Members → Taking (ℕ × Members)
+number_by name a meanings bits ms =
+    take_out name ms >>= λ p. at_path name (number_or_absent a p.0) >>= λ n.
+    expect (nat_lt n (2 ^ bits)) name reasons.OutOfRange >>= λ _.
+    meaning_after a name meanings n p.1 >>= λ rest. Ok (n, rest)
+
 -- a number of this many bits
 abbrev pub number_taken : NumberName → ℕ → Members → Taking (ℕ × Members)
-number_taken f bits ms =
-    take_out f.0.now ms >>= λ p. at_path f.0.now (number_or_absent f.1 p.0) >>= λ n.
-    expect (nat_lt n (2 ^ bits)) f.0.now reasons.OutOfRange >>= λ _.
-    meaning_after f.1 f.0.now f.2.now n p.1 >>= λ rest. Ok (n, rest)
+number_taken f bits ms = number_by f.0.now f.1 f.2.now bits ms
 
 -- a number between two others
 abbrev pub signed_taken : NumberName → ℤ → ℤ → Members → Taking (ℤ × Members)

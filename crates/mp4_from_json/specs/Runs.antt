@@ -21,17 +21,17 @@ abbrev pub hex_or_none : List ℕ → Option Json → Taking (List ℕ)
 hex_or_none name (Some j) = at_path name (hex_in j)
 hex_or_none name None = Ok []
 
--- a whole number of this many bits, with the path of an entry
+-- a whole number of this many bits
 abbrev pub small_in : ℕ → List ℕ → Json → Taking ℕ
 small_in bits path j =
     at_path path (or_else reasons.NotWhole Ok (whole_in j)) >>= λ n.
     expect (nat_lt n (2 ^ bits)) path reasons.OutOfRange >>= λ _. Ok n
 
--- the numbers of an array, the first of which has the index i
-abbrev pub small_items : ℕ → List ℕ → ℕ → Items → Taking (List ℕ)
-small_items bits name i no_items = Ok []
-small_items bits name i (item j js) =
-    small_in bits (entry_path name i) j >>= λ n. small_items bits name (i + 1) js >>= λ ns. Ok (n ∷ ns)
+-- what is taken from each entry, the first of which has the index i
+abbrev pub each_taken : {X : Type 0} → (Json → Taking X) → List ℕ → ℕ → Items → Taking (List X)
+each_taken taken name i no_items = Ok []
+each_taken taken name i (item j js) =
+    within (entry_path name i) (taken j) >>= λ x. each_taken taken name (i + 1) js >>= λ xs. Ok (x ∷ xs)
 
 abbrev pub items_in : List ℕ → Json → Taking Items
 items_in path null = refused path reasons.NotArray
@@ -41,8 +41,9 @@ items_in path (string s) = refused path reasons.NotArray
 items_in path (array js) = Ok js
 items_in path (object ms) = refused path reasons.NotArray
 
+-- an array of numbers
 abbrev pub small_numbers_in : ℕ → List ℕ → Json → Taking (List ℕ)
-small_numbers_in bits name j = items_in name j >>= λ js. small_items bits name 0 js
+small_numbers_in bits name j = items_in name j >>= λ js. each_taken (small_in bits []) name 0 js
 
 abbrev pub numbers_or_none : List ℕ → Option Json → Taking (List ℕ)
 numbers_or_none name (Some j) = small_numbers_in 8 name j

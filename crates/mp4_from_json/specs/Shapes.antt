@@ -10,10 +10,10 @@ use Rattle.mp4_declared.specs.declared.typed.OfType.{OfType}
 use Rattle.mp4_declared.specs.declared.typed.OfType.TheVariants as of_type
 use Rattle.mp4_shown.specs.Numbers.{NumberName}
 use Rattle.mp4_shown.specs.declared.list_name.ListAs.{ListAs}
-use Rattle.mp4_from_json.specs.Lists.{code_entry, code_taken, each_taken, row_numbers}
+use Rattle.mp4_from_json.specs.Lists.{code_entry, code_taken, row_numbers}
 use Rattle.mp4_from_json.specs.Numbers.{number_taken, numbers_taken}
 use Rattle.mp4_from_json.specs.Object.{take_one, members_in, all_of}
-use Rattle.mp4_from_json.specs.Runs.{items_in, small_numbers_in}
+use Rattle.mp4_from_json.specs.Runs.{each_taken, items_in, small_numbers_in}
 use Rattle.mp4_from_json.specs.Taking.{Taking, expect, within, ◌>>=◌}
 use Rattle.mp4_from_json.specs.declared.error.Reason.TheVariants as reasons
 

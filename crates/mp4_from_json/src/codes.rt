@@ -1,18 +1,19 @@
 //! Codes of four characters, and numbers of four bytes up to the end of a box.
 
-ghost use Rattle.std.specs.Prelude.{◌≡◌, Ok};
+ghost use Rattle.std.specs.Prelude.{[], Ok};
 ghost use Rattle.json.specs.Value.{items_view};
-ghost use Rattle.mp4_from_json.specs.Lists.{code_entry, code_taken, each_taken};
+ghost use Rattle.mp4_from_json.specs.Lists.{code_entry, code_taken};
 ghost use Rattle.mp4_from_json.specs.Object.{left, take_one};
-ghost use Rattle.mp4_from_json.specs.Runs.{items_in, small_items};
+ghost use Rattle.mp4_from_json.specs.Runs.{items_in, small_in};
 ghost use Rattle.mp4_from_json.specs.Shapes.{codes_taken, small_taken};
 ghost use Rattle.mp4_from_json.specs.Taking.{TakesAs, ◌>>=◌};
 
 use crate::code::{code_in, take_code};
+use crate::each::{TakeItem, take_each};
 use crate::error::{Reason, Result, refuse};
 use crate::list::array_in;
 use crate::object::Object;
-use crate::run::item_in;
+use crate::run::small_in;
 use crate::take::TakeShape;
 use json::Value;
 use mp4_declared::{Code, Codes, Context, Numbers};
@@ -43,18 +44,18 @@ fn take_array<'a>(alloc: Global, name: &str, object: &mut Object<'a>) -> Result<
     array_in(alloc, name, value)
 }
 
-/// Returns the codes that `items` are. `name` is the name of their array.
-fn codes_in(alloc: Global, name: &str, items: &[Value<'_>]) -> Result<Entries<FourCC>>
-    ensures { TakesAs (λ codes. codes) result (each_taken code_entry name.now 0 (items_view items.now)) }
-{
-    let mut codes = Vec::new(alloc);
-    for index in 0..items.len() {
-        let Some(code) = code_in(&items[index]) else {
-            return Err(refuse(alloc, "", Reason::NotCode).in_entry(alloc, name, index));
-        };
-        codes.push(code)?;
+/// An entry that is a code.
+struct CodeItem;
+
+impl TakeItem<FourCC> for CodeItem {
+    ghost taken = { λ by j. code_entry j };
+
+    fn take(&self, alloc: Global, value: Value<'_>) -> Result<FourCC> {
+        match code_in(&value) {
+            Some(code) => Ok(code),
+            None => Err(refuse(alloc, "", Reason::NotCode)),
+        }
     }
-    Ok(codes.into())
 }
 
 impl TakeShape for Codes {
@@ -69,19 +70,20 @@ impl TakeShape for Codes {
         object: &mut Object<'_>,
     ) -> Result<Entries<FourCC>> {
         let items = take_array(alloc, name, object)?;
-        codes_in(alloc, name, items.as_slice())
+        let codes: Vec<FourCC> = take_each(alloc, name, &CodeItem, items)?;
+        Ok(codes.into())
     }
 }
 
-/// Returns the numbers of 32 bits that `items` are. `name` is the name of their array.
-fn numbers_in(alloc: Global, name: &str, items: &[Value<'_>]) -> Result<Entries<u32>>
-    ensures { TakesAs (λ numbers. numbers) result (small_items 32 name.now 0 (items_view items.now)) }
-{
-    let mut numbers = Vec::new(alloc);
-    for index in 0..items.len() {
-        numbers.push(item_in(alloc, name, index, 32, &items[index])? as u32)?;
+/// An entry that is a number of 32 bits.
+struct WordItem;
+
+impl TakeItem<u32> for WordItem {
+    ghost taken = { λ by j. small_in 32 [] j };
+
+    fn take(&self, alloc: Global, value: Value<'_>) -> Result<u32> {
+        Ok(small_in(alloc, "", 32, &value)? as u32)
     }
-    Ok(numbers.into())
 }
 
 impl TakeShape for Numbers {
@@ -96,6 +98,7 @@ impl TakeShape for Numbers {
         object: &mut Object<'_>,
     ) -> Result<Entries<u32>> {
         let items = take_array(alloc, name, object)?;
-        numbers_in(alloc, name, items.as_slice())
+        let numbers: Vec<u32> = take_each(alloc, name, &WordItem, items)?;
+        Ok(numbers.into())
     }
 }

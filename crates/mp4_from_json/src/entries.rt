@@ -1,10 +1,9 @@
 //! Lists of entries, each of which has a shape.
 
-ghost use Rattle.std.specs.Prelude.{◌≡◌, ◌^◌};
-ghost use Rattle.json.specs.Value.{items_view};
-ghost use Rattle.mp4_from_json.specs.Lists.{each_taken, entries_taken, list_below, list_taken};
-ghost use Rattle.mp4_from_json.specs.Taking.{TakesAs};
+ghost use Rattle.std.specs.Prelude.{◌^◌};
+ghost use Rattle.mp4_from_json.specs.Lists.{entries_taken, list_below, list_taken};
 
+use crate::each::{TakeItem, take_each};
 use crate::error::Result;
 use crate::list::{take_list, take_list_of};
 use crate::object::Object;
@@ -15,25 +14,17 @@ use mp4_frame::Entries;
 use mp4_shown::{EntriesOf, ListName, ShownEntry};
 use std::alloc::Global;
 
-/// Returns the entries `items` of the list `name`.
-fn entries_in<X: TakeEntry>(
-    alloc: Global,
-    name: &str,
+/// An entry that is an `X` in a context.
+struct EntryItem {
     context: Context,
-    items: Vec<Value<'_>>,
-) -> Result<Entries<X>>
-    ensures { TakesAs (λ xs. xs) result (each_taken (X.taken context) name.now 0 (items_view items.items)) }
-{
-    let mut entries = Vec::new(alloc);
-    let mut index: usize = 0;
-    for item in items {
-        match X::take(alloc, context, item) {
-            Ok(entry) => entries.push(entry)?,
-            Err(error) => return Err(error.in_entry(alloc, name, index)),
-        }
-        index = index.saturating_add(1);
+}
+
+impl<X: TakeEntry> TakeItem<X> for EntryItem {
+    ghost taken = { λ by j. X.taken by.context j };
+
+    fn take(&self, alloc: Global, value: Value<'_>) -> Result<X> {
+        X::take(alloc, self.context, value)
     }
-    Ok(entries.into())
 }
 
 impl<C: Count, X: ShownEntry + TakeEntry> TakeShape for Each<C, X> {
@@ -48,7 +39,8 @@ impl<C: Count, X: ShownEntry + TakeEntry> TakeShape for Each<C, X> {
         object: &mut Object<'_>,
     ) -> Result<Entries<X>> {
         let items = take_list_of::<C>(alloc, name, object)?;
-        entries_in(alloc, name.0, context, items)
+        let entries: Vec<X> = take_each(alloc, name.0, &EntryItem { context }, items)?;
+        Ok(entries.into())
     }
 }
 
@@ -64,7 +56,8 @@ impl<X: ShownEntry + TakeEntry> TakeShape for EachToEnd<X> {
         object: &mut Object<'_>,
     ) -> Result<Entries<X>> {
         let items = take_list(alloc, name, object)?;
-        entries_in(alloc, name.0, context, items)
+        let entries: Vec<X> = take_each(alloc, name.0, &EntryItem { context }, items)?;
+        Ok(entries.into())
     }
 }
 
@@ -80,6 +73,7 @@ impl<X: ShownEntry + TakeEntry> TakeShape for EntriesOf<X> {
         object: &mut Object<'_>,
     ) -> Result<Entries<X>> {
         let items = take_list(alloc, name, object)?;
-        entries_in(alloc, name.0, context, items)
+        let entries: Vec<X> = take_each(alloc, name.0, &EntryItem { context }, items)?;
+        Ok(entries.into())
     }
 }

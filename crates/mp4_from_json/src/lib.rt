@@ -6,6 +6,7 @@ mod bytes;
 mod code;
 mod codes;
 mod decimal;
+mod each;
 mod entries;
 mod error;
 mod group;

@@ -4,11 +4,13 @@ ghost use Rattle.std.specs.Prelude.{◌≡◌, ℕ, ◌*◌, ◌<◌, ◌^◌, �
 ghost use Rattle.json.specs.Value.{items_view, value_view};
 ghost use Rattle.mp4_declared.specs.Layout.{layout_in, widths_of, values_of};
 ghost use Rattle.mp4_shown.specs.Numbers.{seen_number};
-ghost use Rattle.mp4_from_json.specs.Lists.{each_taken, entries_taken, entry_numbers, item_numbers};
+ghost use Rattle.mp4_from_json.specs.Lists.{entries_taken, entry_numbers, item_numbers};
 ghost use Rattle.mp4_from_json.specs.Lists.{list_below, list_taken, row_numbers};
+ghost use Rattle.mp4_from_json.specs.Runs.{each_taken};
 ghost use Rattle.mp4_from_json.specs.Shapes.{layout_taken, row_taken};
 ghost use Rattle.mp4_from_json.specs.Taking.{TakesAs};
 
+use crate::each::{TakeItem, take_each};
 use crate::error::{Reason, Result, refuse};
 use crate::list::{take_list, take_list_of};
 use crate::number::{fits, number_by, take_numbers};
@@ -100,22 +102,24 @@ fn row_numbers<const N: usize>(
     }
 }
 
-/// Returns the entry `value` of a list that is shown so.
-fn row_in<X: EntryLayout<N, E>, const N: usize, const E: usize>(
-    alloc: Global,
+/// An entry of bit fields, of `N` numbers in `E` bytes, of a list that is shown so.
+struct RowItem<'n, const N: usize, const E: usize> {
     list_as: ListAs,
-    names: &[NumberName],
-    value: Value<'_>,
-) -> Result<X>
-    ensures { TakesAs (λ x. x) result (row_taken (layout_in X.layout).value list_as (map seen_number names.now)
-        (widths_of X.layout.fields) (value_view value)) }
-{
-    let numbers = row_numbers(alloc, list_as, names, &X::widths(), value)?;
-    Ok(X::from_numbers(&numbers))
+    names: &'n [NumberName],
 }
 
-/// Returns the entries `items` of the list `name`.
-fn rows_in<X: EntryLayout<N, E>, const N: usize, const E: usize>(
+impl<'n, X: EntryLayout<N, E>, const N: usize, const E: usize> TakeItem<X> for RowItem<'n, N, E> {
+    ghost taken = { λ by j. row_taken (layout_in X.layout).value by.list_as (map seen_number by.names.now)
+        (widths_of X.layout.fields) j };
+
+    fn take(&self, alloc: Global, value: Value<'_>) -> Result<X> {
+        let numbers = row_numbers(alloc, self.list_as, self.names, &X::widths(), value)?;
+        Ok(X::from_numbers(&numbers))
+    }
+}
+
+/// Takes the entries `items` of the list `name`.
+fn take_rows<X: EntryLayout<N, E>, const N: usize, const E: usize>(
     alloc: Global,
     name: ListName,
     names: &[NumberName],
@@ -124,15 +128,11 @@ fn rows_in<X: EntryLayout<N, E>, const N: usize, const E: usize>(
     ensures { TakesAs (λ xs. xs) result (each_taken (row_taken (layout_in X.layout).value name.entry.1
         (map seen_number names.now) (widths_of X.layout.fields)) name.entry.0.now 0 (items_view items.items)) }
 {
-    let mut entries = Vec::with_capacity(alloc, items.len())?;
-    let mut index: usize = 0;
-    for item in items {
-        match row_in::<X, N, E>(alloc, name.1, names, item) {
-            Ok(entry) => entries.push(entry)?,
-            Err(error) => return Err(error.in_entry(alloc, name.0, index)),
-        }
-        index = index.saturating_add(1);
-    }
+    let by = RowItem::<'_, N, E> {
+        list_as: name.1,
+        names,
+    };
+    let entries: Vec<X> = take_each(alloc, name.0, &by, items)?;
     Ok(entries.into())
 }
 
@@ -149,7 +149,7 @@ impl<C: Count, X: EntryLayout<N, E>, const N: usize, const E: usize> TakeShape f
         object: &mut Object<'_>,
     ) -> Result<Entries<X>> {
         let items = take_list_of::<C>(alloc, names.0, object)?;
-        rows_in::<X, N, E>(alloc, names.0, names.1, items)
+        take_rows::<X, N, E>(alloc, names.0, names.1, items)
     }
 }
 
@@ -191,6 +191,6 @@ impl<X: EntryLayout<N, E>, const N: usize, const E: usize> TakeShape for ToEnd<X
         object: &mut Object<'_>,
     ) -> Result<Entries<X>> {
         let items = take_list(alloc, names.0, object)?;
-        rows_in::<X, N, E>(alloc, names.0, names.1, items)
+        take_rows::<X, N, E>(alloc, names.0, names.1, items)
     }
 }

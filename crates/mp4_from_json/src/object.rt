@@ -1,9 +1,9 @@
 //! The members of a JSON object that aren't taken out yet.
 
-ghost use Rattle.std.specs.Prelude.{◌≡◌, ◌<◌, IfSome, length, option_map, position};
-ghost use Rattle.json.specs.Value.{value_view};
-ghost use Rattle.mp4_from_json.specs.Object.{ended, has, left, members_in, number_at, take_one, take_out};
-ghost use Rattle.mp4_from_json.specs.Places.{is_called};
+ghost use Rattle.std.specs.Prelude.{◌≡◌, ◌<◌, IfNone, IfSome, None, length, option_map, position};
+ghost use Rattle.json.specs.Value.{members_view, value_view};
+ghost use Rattle.mp4_from_json.specs.Object.{ended, first_of, has, left, members_in, number_at, take_one, take_out};
+ghost use Rattle.mp4_from_json.specs.Places.{IsFirst, is_called};
 ghost use Rattle.mp4_from_json.specs.Taking.{TakesAs};
 
 use crate::error::{Reason, Result, refuse};
@@ -18,7 +18,7 @@ pub struct Object<'a> {
 }
 
 /// Returns the index of the first of `members` called `name`, or `None` if there is none.
-fn place_of(members: &[(&str, Value<'_>)], name: &str) -> Option<usize>
+fn position_of(members: &[(&str, Value<'_>)], name: &str) -> Option<usize>
     ensures place { result ≡ position (is_called name.now) members.now }
     ensures inside { IfSome result (λ i. i < length members.now) }
 {
@@ -29,12 +29,27 @@ fn place_of(members: &[(&str, Value<'_>)], name: &str) -> Option<usize>
     )
 }
 
+/// Returns the index of the first of `members` called `name`, or `None` if there is none.
+fn place_of(members: &[(&str, Value<'_>)], name: &str) -> Option<usize>
+    ensures found { IfSome result (IsFirst name.now members.now) }
+    ensures none { IfNone result (first_of name.now (members_view members.now) ≡ None) }
+    ensures inside { IfSome result (λ i. i < length members.now) }
+{
+    match position_of(members, name) {
+        Some(place) => Some(place),
+        None => None,
+    }
+}
+
 impl<'a> Object<'a> {
     /// Returns whether a member called `name` is left.
     pub fn has(&self, name: &str) -> bool
         ensures { result ≡ has name.now (left self.now) }
     {
-        place_of(self.members.as_slice(), name).is_some()
+        match place_of(self.members.as_slice(), name) {
+            Some(_) => true,
+            None => false,
+        }
     }
 
     /// Returns the whole number that the first member called `name` is, or `None` if it isn't there or isn't one.

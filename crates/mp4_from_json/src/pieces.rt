@@ -1,14 +1,15 @@
 //! Lists of pieces of bytes, one after the other.
 
-ghost use Rattle.std.specs.Prelude.{◌≡◌, ℕ, List};
+ghost use Rattle.std.specs.Prelude.{◌≡◌, ℕ, List, IfOk};
 ghost use Rattle.json.specs.Json.{Json};
-ghost use Rattle.json.specs.Value.{items_view, value_view};
+ghost use Rattle.json.specs.Value.{value_view};
 ghost use Rattle.mp4_shown.specs.Lists.{seen_list};
 ghost use Rattle.mp4_shown.specs.Runs.{seen_bytes};
 ghost use Rattle.mp4_from_json.specs.Object.{left};
-ghost use Rattle.mp4_from_json.specs.Pieces.{all_pieces, pieces_taken};
+ghost use Rattle.mp4_from_json.specs.Pieces.{concat, pieces_taken};
 ghost use Rattle.mp4_from_json.specs.Taking.{Taking, TakesAs};
 
+use crate::each::{TakeItem, take_each};
 use crate::error::{Reason, Result, refuse};
 use crate::list::take_list;
 use crate::object::Object;
@@ -16,7 +17,7 @@ use crate::run::take_bytes;
 use json::Value;
 use mp4_frame::Entries;
 use mp4_shown::{BytesName, ListName, Pieces};
-use std::alloc::Global;
+use std::alloc::{AllocError, Global};
 
 /// A kind of pieces that are taken out of JSON.
 pub trait TakePieces: Pieces {
@@ -24,28 +25,30 @@ pub trait TakePieces: Pieces {
     ghost taken: { Self → Json → Taking (List ℕ) };
 
     /// Takes the bytes of a piece from the value of an entry.
-    fn take(&self, alloc: Global, value: Value<'_>) -> Result<Vec<u8>>
-        ensures { TakesAs (λ bytes. bytes.items) result (taken self.now (value_view value)) };
+    fn take(&self, alloc: Global, value: Value<'_>) -> Result<Entries<u8>>
+        ensures { TakesAs (λ bytes. bytes) result (taken self.now (value_view value)) };
 }
 
-/// Takes the pieces `items` of the list `name`. Returns the bytes of all.
-fn take_items<P: TakePieces>(
-    alloc: Global,
-    name: &str,
-    pieces: &P,
-    items: Vec<Value<'_>>,
-) -> Result<Vec<u8>>
-    ensures { TakesAs (λ bytes. bytes.items) result
-        (all_pieces (P.taken pieces.now) name.now 0 (items_view items.items)) }
+/// An entry that is a piece.
+struct PieceItem<P> {
+    pieces: P,
+}
+
+impl<P: TakePieces> TakeItem<Entries<u8>> for PieceItem<P> {
+    ghost taken = { λ by j. P.TakePieces.taken by.pieces j };
+
+    fn take(&self, alloc: Global, value: Value<'_>) -> Result<Entries<u8>> {
+        self.pieces.take(alloc, value)
+    }
+}
+
+/// Returns the bytes of all `pieces`.
+fn joined(alloc: Global, pieces: &[Entries<u8>]) -> std::result::Result<Vec<u8>, AllocError>
+    ensures { IfOk result (λ bytes. bytes.items ≡ concat pieces.now) }
 {
     let mut bytes = Vec::new(alloc);
-    let mut index: usize = 0;
-    for item in items {
-        match pieces.take(alloc, item) {
-            Ok(piece) => bytes.extend_from_slice(piece.as_slice())?,
-            Err(error) => return Err(error.in_entry(alloc, name, index)),
-        }
-        index = index.saturating_add(1);
+    for piece in pieces {
+        bytes.extend_from_slice(piece.as_slice())?;
     }
     Ok(bytes)
 }
@@ -55,14 +58,14 @@ fn take_items<P: TakePieces>(
 pub fn take_pieces<P: TakePieces>(
     alloc: Global,
     names: (ListName, (BytesName, BytesName)),
-    pieces: &P,
+    pieces: P,
     count_name: &str,
     count: u64,
     object: &mut Object<'_>,
 ) -> Result<Entries<u8>>
     ensures { TakesAs (λ bytes. (bytes, left object.new)) result
         (pieces_taken (seen_list names.entry.0) (seen_bytes names.entry.1.0) (seen_bytes names.entry.1.1)
-        (P.taken pieces.now) count_name.now count (left object.old)) }
+        (P.TakePieces.taken pieces) count_name.now count (left object.old)) }
 {
     if !object.has(names.0.0) {
         return Ok(take_bytes(alloc, names.1.0, object)?.into());
@@ -71,7 +74,8 @@ pub fn take_pieces<P: TakePieces>(
     if items.len() as u64 != count {
         return Err(refuse(alloc, count_name, Reason::Contradiction));
     }
-    let mut bytes = take_items(alloc, names.0.0, pieces, items)?;
+    let taken: Vec<Entries<u8>> = take_each(alloc, names.0.0, &PieceItem { pieces }, items)?;
+    let mut bytes = joined(alloc, taken.as_slice())?;
     let rest = take_bytes(alloc, names.1.1, object)?;
     bytes.extend_from_slice(rest.as_slice())?;
     Ok(bytes.into())

@@ -1,11 +1,11 @@
 //! Counted lists of rows of bytes.
 
 ghost use Rattle.std.specs.Prelude.{◌≡◌, ◌^◌};
-ghost use Rattle.json.specs.Value.{items_view, value_view};
-ghost use Rattle.mp4_from_json.specs.Lists.{bytes_entry, each_taken, entries_taken, list_below};
-ghost use Rattle.mp4_from_json.specs.Taking.{TakesAs};
+ghost use Rattle.json.specs.Value.{value_view};
+ghost use Rattle.mp4_from_json.specs.Lists.{bytes_entry, entries_taken, list_below};
 ghost use Rattle.mp4_from_json.specs.Values.{sized_hex_in};
 
+use crate::each::{TakeItem, take_each};
 use crate::error::{Reason, Result, refuse};
 use crate::list::take_list_of;
 use crate::object::Object;
@@ -31,22 +31,18 @@ fn row_in<const E: usize>(value: &Value<'_>) -> std::result::Result<[u8; E], Rea
     }
 }
 
-/// Returns the rows that `items` are. `name` is the name of their list.
-fn rows_in<const E: usize>(
-    alloc: Global,
-    name: &str,
-    items: &[Value<'_>],
-) -> Result<Entries<[u8; E]>>
-    ensures { TakesAs (λ rows. rows) result (each_taken (bytes_entry E) name.now 0 (items_view items.now)) }
-{
-    let mut rows = Vec::new(alloc);
-    for index in 0..items.len() {
-        match row_in::<E>(&items[index]) {
-            Ok(row) => rows.push(row)?,
-            Err(reason) => return Err(refuse(alloc, "", reason).in_entry(alloc, name, index)),
+/// An entry that is `E` bytes.
+struct BytesItem<const E: usize>;
+
+impl<const E: usize> TakeItem<[u8; E]> for BytesItem<E> {
+    ghost taken = { λ by j. bytes_entry E j };
+
+    fn take(&self, alloc: Global, value: Value<'_>) -> Result<[u8; E]> {
+        match row_in::<E>(&value) {
+            Ok(row) => Ok(row),
+            Err(reason) => Err(refuse(alloc, "", reason)),
         }
     }
-    Ok(rows.into())
 }
 
 impl<C: Count, const E: usize> TakeShape for Rows<C, E> {
@@ -61,6 +57,7 @@ impl<C: Count, const E: usize> TakeShape for Rows<C, E> {
         object: &mut Object<'_>,
     ) -> Result<Entries<[u8; E]>> {
         let items = take_list_of::<C>(alloc, name, object)?;
-        rows_in::<E>(alloc, name.0, items.as_slice())
+        let rows: Vec<[u8; E]> = take_each(alloc, name.0, &BytesItem::<E>, items)?;
+        Ok(rows.into())
     }
 }

@@ -1,16 +1,18 @@
 //! Runs of bytes that are taken out of an object.
 
-ghost use Rattle.std.specs.Prelude.{◌≡◌, Ok, option_map};
+ghost use Rattle.std.specs.Prelude.{◌≡◌, [], Ok, option_map};
 ghost use Rattle.json.specs.Value.{value_view};
 ghost use Rattle.mp4_shown.specs.Runs.{seen_bytes, unended};
 ghost use Rattle.mp4_from_json.specs.Numbers.{at_path};
 ghost use Rattle.mp4_from_json.specs.Object.{left, take_out};
 ghost use Rattle.mp4_from_json.specs.Runs.{count_or_length, counted_taken, run_taken, small_in, small_numbers_in};
 ghost use Rattle.mp4_from_json.specs.Runs.{text_in, text_taken};
-ghost use Rattle.mp4_from_json.specs.Taking.{TakesAs, entry_path, expect, ◌>>=◌};
+ghost use Rattle.mp4_from_json.specs.Taking.{TakesAs, expect, ◌>>=◌};
 ghost use Rattle.mp4_from_json.specs.Values.{hex_in};
 
+use crate::each::{TakeItem, take_each};
 use crate::error::{Error, Reason, Result, refuse};
+use crate::list::array_in;
 use crate::number::{agrees, fits, whole_in};
 use crate::object::Object;
 use hex::FromHexError;
@@ -32,41 +34,39 @@ pub fn hex_in(alloc: Global, path: &str, value: &Value<'_>) -> Result<Vec<u8>>
     }
 }
 
-/// Returns the whole number of `bits` bits that `value` is, which has the index `index` in the list `name`.
-pub(crate) fn item_in(
-    alloc: Global,
-    name: &str,
-    index: usize,
-    bits: u32,
-    value: &Value<'_>,
-) -> Result<u64>
-    ensures { TakesAs (λ n. n) result (small_in bits (entry_path name.now index) (value_view value.now)) }
+/// Returns the whole number of `bits` bits that `value` is. Another value is refused, with the path `path`.
+pub(crate) fn small_in(alloc: Global, path: &str, bits: u32, value: &Value<'_>) -> Result<u64>
+    ensures { TakesAs (λ n. n) result (small_in bits path.now (value_view value.now)) }
 {
-    let reason = match whole_in(value) {
+    match whole_in(value) {
         Ok(number) => {
             if fits(number, bits) {
-                return Ok(number);
+                Ok(number)
+            } else {
+                Err(refuse(alloc, path, Reason::OutOfRange))
             }
-            Reason::OutOfRange
         }
-        Err(reason) => reason,
-    };
-    Err(refuse(alloc, "", reason).in_entry(alloc, name, index))
+        Err(reason) => Err(refuse(alloc, path, reason)),
+    }
+}
+
+/// An entry that is a byte.
+struct ByteItem;
+
+impl TakeItem<u8> for ByteItem {
+    ghost taken = { λ by j. small_in 8 [] j };
+
+    fn take(&self, alloc: Global, value: Value<'_>) -> Result<u8> {
+        Ok(small_in(alloc, "", 8, &value)? as u8)
+    }
 }
 
 /// Returns the bytes that the numbers of the array `value` are. `name` is its name.
-fn numbers_in(alloc: Global, name: &str, value: &Value<'_>) -> Result<Vec<u8>>
-    ensures { TakesAs (λ bytes. bytes.items) result (small_numbers_in 8 name.now (value_view value.now)) }
+fn numbers_in(alloc: Global, name: &str, value: Value<'_>) -> Result<Vec<u8>>
+    ensures { TakesAs (λ bytes. bytes.items) result (small_numbers_in 8 name.now (value_view value)) }
 {
-    let Value::Array(items) = value else {
-        return Err(refuse(alloc, name, Reason::NotArray));
-    };
-    let mut bytes = Vec::new(alloc);
-    for index in 0..items.len() {
-        let number = item_in(alloc, name, index, 8, &items[index])?;
-        bytes.push((number % 256) as u8)?;
-    }
-    Ok(bytes)
+    let items = array_in(alloc, name, value)?;
+    take_each(alloc, name, &ByteItem, items)
 }
 
 /// Returns the byte that counts `bytes`: the member `second`, or their number if it is absent.
@@ -80,22 +80,15 @@ fn count_or_length(
     ensures { TakesAs (λ n. n) result
         (count_or_length name.now second.now bytes (option_map value_view value.now)) }
 {
-    let number = match value {
-        Some(value) => match whole_in(value) {
-            Ok(number) => number,
-            Err(reason) => return Err(refuse(alloc, second, reason)),
-        },
+    match value {
+        Some(value) => Ok(small_in(alloc, second, 8, value)? as u8),
         None => {
             if bytes < 256 {
-                return Ok(bytes as u8);
+                Ok(bytes as u8)
+            } else {
+                Err(refuse(alloc, name, Reason::WrongLength))
             }
-            return Err(refuse(alloc, name, Reason::WrongLength));
         }
-    };
-    if number < 256 {
-        Ok(number as u8)
-    } else {
-        Err(refuse(alloc, second, Reason::OutOfRange))
     }
 }
 
@@ -204,7 +197,7 @@ pub fn take_bytes(alloc: Global, name: BytesName, object: &mut Object<'_>) -> Re
         },
         BytesAs::Counted => take_counted(alloc, name, second, object),
         BytesAs::Numbers => match object.take_out(alloc, name)? {
-            Some(value) => numbers_in(alloc, name, &value),
+            Some(value) => numbers_in(alloc, name, value),
             None => Ok(Vec::new(alloc)),
         },
         BytesAs::Text => take_text(alloc, name, second, false, object),
