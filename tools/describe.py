@@ -609,7 +609,7 @@ A field is present in each box of its type unless the last column says when it i
 
 ## Boxes from JSON
 
-`read_extra` of the crate [`mp4_extra_from_json`](../crates/mp4_from_json/CALLING.md) makes a box of its JSON again. The
+`read_extra` of the crate [`mp4_from_json`](../crates/mp4_from_json/CALLING.md) makes a box of its JSON again. The
 JSON is an object with the fields of the box:
 
 - The names may come in any order. A field that is missing, a name that the box doesn't have, and a name that comes
@@ -621,6 +621,8 @@ JSON is an object with the fields of the box:
     - a text or a number beside its bytes, whose name ends in `_hex`.
 - Reserved bits may be left out if they have the standard's value. Bytes that are present only if there are some, and
   empty lists of bytes, may be left out.
+- A byte that counts the bytes after it, such as `default_constant_IV_size`, may be left out. Another number than
+  theirs is kept, since files have such numbers.
 - A whole number is written without a point or an exponent. A fixed-point number may have both, up to 37 digits. It is
   rounded to the nearest number that the field can have.
 - Bytes are texts of hexadecimal digits, in either case. Codes are texts of four characters, each of the number of its

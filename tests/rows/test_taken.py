@@ -1,4 +1,4 @@
-"""Makes boxes of their JSON, by the program test_probe: `mp4_extra_from_json` takes the fields out of it.
+"""Makes boxes of their JSON, by the program test_probe: `mp4_from_json` takes the fields out of it.
 
 The rows of this folder that have the fields of a declared box give one text each: these fields, and the box is that of
 the row, or the last box inside it. What is made has to be written in the bytes of that box. It is made once more with
@@ -7,10 +7,11 @@ with the path of the member and the reason; these were worked out by hand from d
 
 import copy
 import json
+import os
 import subprocess
 import unittest
 
-from tests.built import built
+from tests.built import TOP, built
 from tests.readers.extra import MORE
 from tests.readers.shown import records, shown, texts_of
 from tests.rows import rows
@@ -36,8 +37,6 @@ REASONS = {
     "missing": "is missing",
     "contradiction": "contradicts its field",
 }
-# The names of the counts that follow from their lists or bytes.
-COUNTS = {"entry_count", "range_count", "subsegment_count", "mNumberChannelDescriptions", "description_length", "Length"}
 PASP = {"hSpacing": 4, "vSpacing": 3}
 PASP_BYTES = bytes.fromhex("00000010706173700000000400000003")
 SIDX = {
@@ -108,16 +107,29 @@ def reversed_names(value):
     return [reversed_names(it) for it in value] if isinstance(value, list) else value
 
 
-def without_derived(value, counts):
-    """Returns `value` without its derived members: meanings, the texts beside their bytes, and counts of entries."""
+def derived_of(code):
+    """Returns the names of the members of a box that follow from others, by docs/boxes.json."""
+    def names(members):
+        for member in members:
+            if "of" in member:
+                yield member["name"]
+            for inside in ("entries", "fields"):
+                if isinstance(member.get(inside), list):
+                    yield from names(member[inside])
+
+    with open(os.path.join(TOP, "docs", "boxes.json"), encoding="utf-8") as file:
+        boxes = json.load(file)["boxes"]
+    return {name for box in boxes if box["code"] == code for name in names(box["fields"])}
+
+
+def without_derived(value, derived):
+    """Returns `value` without the members `derived`, and without the texts and numbers beside their bytes."""
     if isinstance(value, list):
-        return [without_derived(it, counts) for it in value]
+        return [without_derived(it, derived) for it in value]
     if not isinstance(value, dict):
         return value
-    derived = {name for name in value if name.endswith("_name") and name[:-5] in value}
-    derived |= {name[:-4] for name in value if name.endswith("_hex") and name[:-4] in value}
-    derived |= counts & set(value)
-    return {name: without_derived(it, counts) for name, it in value.items() if name not in derived}
+    left_out = derived | {name[:-4] for name in value if name.endswith("_hex")}
+    return {name: without_derived(it, derived) for name, it in value.items() if name not in left_out}
 
 
 def refusal(path, reason):
@@ -146,7 +158,8 @@ class Taken(unittest.TestCase):
         written = [texts[WRITTEN] for texts in shown(built("test_probe"), [(0, box) for _, box, _ in found])]
         cases = []
         for (name, box, fields), expected in zip(found, written):
-            for value in (fields, reversed_names(fields), without_derived(fields, COUNTS)):
+            derived = derived_of(box[4:8].decode("latin-1"))
+            for value in (fields, reversed_names(fields), without_derived(fields, derived)):
                 cases.append((box[4:8], json.dumps(value, ensure_ascii=False), expected))
         self.compare(cases)
 

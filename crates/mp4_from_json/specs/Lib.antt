@@ -9,5 +9,9 @@ pub mod Runs
 pub mod Lists
 pub mod Pieces
 pub mod Shapes
+pub mod ExtraEntries
+pub mod Media
+pub mod Samples
+pub mod Segments
 pub mod Shown
 pub mod Back

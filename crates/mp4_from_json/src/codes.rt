@@ -45,6 +45,7 @@ fn take_array<'a>(alloc: Global, name: &str, object: &mut Object<'a>) -> Result<
 }
 
 /// An entry that is a code.
+#[derive(Drop)]
 struct CodeItem;
 
 impl TakeItem<FourCC> for CodeItem {
@@ -76,6 +77,7 @@ impl TakeShape for Codes {
 }
 
 /// An entry that is a number of 32 bits.
+#[derive(Drop)]
 struct WordItem;
 
 impl TakeItem<u32> for WordItem {

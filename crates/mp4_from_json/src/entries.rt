@@ -15,6 +15,7 @@ use mp4_shown::{EntriesOf, ListName, ShownEntry};
 use std::alloc::Global;
 
 /// An entry that is an `X` in a context.
+#[derive(Drop)]
 struct EntryItem {
     context: Context,
 }

@@ -1,17 +1,29 @@
-//! For programs that make boxes from their JSON: takes the fields of a box out of a JSON object. What is taken follows
-//! from the shape of the box and the names of its fields, as in `mp4_shown`.
+//! For programs that make boxes of their JSON: takes the fields of a box out of a JSON object. What is taken follows from
+//! the shape of the box and the names of its fields, as what `mp4_shown` shows does.
 #![tactic(auto)]
 
+mod av1c;
+mod big_endian;
 mod bytes;
 mod code;
 mod codes;
+mod colr;
+mod data;
+mod dec3;
 mod decimal;
+mod dfla;
+mod dops;
 mod each;
 mod entries;
 mod error;
+mod extra;
+mod extra_entries;
 mod group;
+mod infe;
+mod item_id;
 mod list;
 mod lists;
+mod media;
 mod named_by;
 mod number;
 mod numbers;
@@ -19,15 +31,22 @@ mod object;
 mod optional;
 mod parts;
 mod pieces;
+mod pssh;
 mod rows;
 mod run;
+mod samples;
+mod segments;
+mod sgpd;
 mod signed;
+mod stz2;
 mod take;
+mod tfra;
 mod tuple;
 mod typed;
 mod whole;
 
 pub use code::{code_in, latin_in, take_code};
+pub use extra::read_extra;
 pub use error::{Error, Reason, Refusal, Result, refuse};
 pub use list::take_list;
 pub use named_by::take_named_by;

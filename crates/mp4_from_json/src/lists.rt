@@ -103,6 +103,7 @@ fn row_numbers<const N: usize>(
 }
 
 /// An entry of bit fields, of `N` numbers in `E` bytes, of a list that is shown so.
+#[derive(Drop)]
 struct RowItem<'n, const N: usize, const E: usize> {
     list_as: ListAs,
     names: &'n [NumberName],

@@ -30,6 +30,7 @@ pub trait TakePieces: Pieces {
 }
 
 /// An entry that is a piece.
+#[derive(Drop)]
 struct PieceItem<P> {
     pieces: P,
 }

@@ -32,6 +32,7 @@ fn row_in<const E: usize>(value: &Value<'_>) -> std::result::Result<[u8; E], Rea
 }
 
 /// An entry that is `E` bytes.
+#[derive(Drop)]
 struct BytesItem<const E: usize>;
 
 impl<const E: usize> TakeItem<[u8; E]> for BytesItem<E> {

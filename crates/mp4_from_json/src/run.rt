@@ -51,6 +51,7 @@ pub(crate) fn small_in(alloc: Global, path: &str, bits: u32, value: &Value<'_>) 
 }
 
 /// An entry that is a byte.
+#[derive(Drop)]
 struct ByteItem;
 
 impl TakeItem<u8> for ByteItem {

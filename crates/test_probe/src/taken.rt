@@ -2,8 +2,7 @@
 
 use crate::push_record;
 use mp4_extra::ExtraBox;
-use mp4_extra_from_json::read_extra;
-use mp4_from_json::{Error, Result as Taken};
+use mp4_from_json::{Error, Result as Taken, read_extra};
 use mp4_stream::WriteBox;
 use std::alloc::{AllocError, Global};
 

@@ -2,13 +2,13 @@
 
 ghost use Rattle.mp4_declared.specs.OwnBox.{no_context};
 ghost use Rattle.mp4_extra_samples.specs.declared.stz2.TheConstants as stz2;
-ghost use Rattle.mp4_extra_from_json.specs.Samples.{stz2_taken};
+ghost use Rattle.mp4_from_json.specs.Samples.{stz2_taken};
 
 use json::Value;
 use mp4_declared::{Full, Last, U8, U32};
 use mp4_extra_samples::stz2::{self, Stz2};
 use mp4_frame::Entries;
-use mp4_from_json::{
+use crate::{
     NO_CONTEXT, Object, Reason, Result, TakeFields, TakeShape, refuse, take_bytes, take_number,
 };
 use std::alloc::Global;

@@ -23,8 +23,8 @@ use Rattle.mp4_from_json.specs.Runs.{each_taken, items_in, run_taken, run_if, sm
 use Rattle.mp4_from_json.specs.Shapes.{Takes, map_taken}
 use Rattle.mp4_from_json.specs.Taking.{Taking, expect, ◌>>=◌}
 use Rattle.mp4_from_json.specs.declared.error.Reason.TheVariants as reasons
-use Rattle.mp4_extra_from_json.specs.Entries.{object_taken}
-use Rattle.mp4_extra_from_json.specs.Media.{length_taken}
+use Rattle.mp4_from_json.specs.ExtraEntries.{object_taken}
+use Rattle.mp4_from_json.specs.Media.{length_taken}
 
 -- ---- sgpd: descriptions by their kind
 

@@ -3,7 +3,7 @@
 use mp4_declared::Declared;
 use mp4_extra::*;
 use mp4_frame::{Holds, codes};
-use mp4_from_json::{Result, TakeFields, read_box};
+use crate::{Result, TakeFields, read_box};
 use std::alloc::Global;
 
 /// Returns the box of the type `T` whose JSON is `text`.

@@ -1,6 +1,6 @@
 //! The Enhanced AC-3 specific box.
 
-ghost use Rattle.mp4_extra_from_json.specs.Media.{dec3_taken, stream_taken};
+ghost use Rattle.mp4_from_json.specs.Media.{dec3_taken, stream_taken};
 
 use crate::big_endian::{joined, push_number};
 use json::Value;
@@ -9,7 +9,7 @@ use mp4_extra_media::dec3::{
     self, Dec3, Ec3Config, PARENT, PARENT_WIDTHS, STREAM, STREAM_WIDTHS, Streams,
 };
 use mp4_frame::Entries;
-use mp4_from_json::{
+use crate::{
     NO_CONTEXT, Object, Result, TakeFields, TakePieces, TakeShape, end_object, object_in,
     take_numbers, take_pieces,
 };

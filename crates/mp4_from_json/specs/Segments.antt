@@ -30,7 +30,7 @@ use Rattle.mp4_from_json.specs.Shapes.{Takes}
 use Rattle.mp4_from_json.specs.Taking.{Taking, refused, expect, ◌>>=◌}
 use Rattle.mp4_from_json.specs.Values.{hex_in, or_else, signed_in as signed_number, whole_in}
 use Rattle.mp4_from_json.specs.declared.error.Reason.TheVariants as reasons
-use Rattle.mp4_extra_from_json.specs.Entries.{object_taken}
+use Rattle.mp4_from_json.specs.ExtraEntries.{object_taken}
 
 -- ---- data: the type says how the value is read
 

@@ -32,7 +32,7 @@ use Rattle.mp4_from_json.specs.Shapes.{Takes, layout_taken, made_of, map_taken}
 use Rattle.mp4_from_json.specs.Taking.{Taking, refused, expect, ◌>>=◌}
 use Rattle.mp4_from_json.specs.Values.{hex_in, whole_in}
 use Rattle.mp4_from_json.specs.declared.error.Reason.TheVariants as reasons
-use Rattle.mp4_extra_from_json.specs.Entries.{object_taken}
+use Rattle.mp4_from_json.specs.ExtraEntries.{object_taken}
 
 -- a length, if it is there, is this one
 abbrev pub length_agrees : List ℕ → ℕ → Option Json → Taking (Unit {0})

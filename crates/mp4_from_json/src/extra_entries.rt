@@ -6,7 +6,7 @@ ghost use Rattle.mp4_extra_segments.specs.declared.ipma.TheConstants as ipma;
 ghost use Rattle.mp4_extra_segments.specs.declared.keys.TheConstants as keys;
 ghost use Rattle.mp4_extra_segments.specs.declared.ssix.TheConstants as ssix;
 ghost use Rattle.mp4_extra_segments.specs.declared.tref.TheConstants as tref;
-ghost use Rattle.mp4_extra_from_json.specs.Entries.{entry_made, unit_made};
+ghost use Rattle.mp4_from_json.specs.ExtraEntries.{entry_made, unit_made};
 
 use mp4_declared::{Context, DeclaredEntry};
 use mp4_extra_media::hvcc::{self, HevcArray, HevcArrayShape, HevcNalUnit};
@@ -15,7 +15,7 @@ use mp4_extra_segments::ipma::{self, ItemProperties, ItemPropertiesShape};
 use mp4_extra_segments::keys::{self, MetadataKey, MetadataKeyShape};
 use mp4_extra_segments::ssix::{self, SsixSubsegment, SsixSubsegmentShape};
 use mp4_extra_segments::tref::{self, TrackReference, TrackReferenceShape};
-use mp4_from_json::{Reason, Result, TakeEntry, TakeShape, hex_in, refuse, take_members};
+use crate::{Reason, Result, TakeEntry, TakeShape, hex_in, refuse, take_members};
 use json::Value;
 use std::alloc::Global;
 

@@ -18,7 +18,7 @@ use mp4_extra_samples::sbgp::{self, Sbgp, SbgpShape};
 use mp4_extra_samples::sdtp::{self, Sdtp, SdtpShape};
 use mp4_extra_samples::senc::{self, Senc, SencShape};
 use mp4_extra_samples::subs::{self, Subs, SubsShape};
-use mp4_from_json::{NO_CONTEXT, Object, Result, TakeFields, TakeShape};
+use crate::{NO_CONTEXT, Object, Result, TakeFields, TakeShape};
 use std::alloc::Global;
 
 impl TakeFields for Cslg {

@@ -60,7 +60,7 @@ use mp4_extra_media::tcmi::{self, Tcmi, TcmiShape};
 use mp4_extra_media::text::{self, Text, TextShape};
 use mp4_extra_media::vvcc::{self, Vvcc, VvccShape};
 use mp4_extra_media::wvtt::{self, Wvtt, WvttShape};
-use mp4_from_json::{NO_CONTEXT, Object, Result, TakeFields, TakeShape};
+use crate::{NO_CONTEXT, Object, Result, TakeFields, TakeShape};
 use std::alloc::Global;
 
 impl TakeFields for Alac {

@@ -2,12 +2,12 @@
 
 ghost use Rattle.mp4_declared.specs.OwnBox.{no_context};
 ghost use Rattle.mp4_extra_segments.specs.declared.infe.TheConstants as infe;
-ghost use Rattle.mp4_extra_from_json.specs.Segments.{infe_taken};
+ghost use Rattle.mp4_from_json.specs.Segments.{infe_taken};
 
 use mp4_declared::{Code, FromVersion, Full, If, Last, Terminated, U16};
 use mp4_extra_segments::infe::{self, Infe, MIME, URI, is_type};
 use mp4_extra_segments::item_id::ItemId;
-use mp4_from_json::{NO_CONTEXT, Object, Result, TakeFields, TakeShape, take_bytes};
+use crate::{NO_CONTEXT, Object, Result, TakeFields, TakeShape, take_bytes};
 use mp4_shown::BytesName;
 use std::alloc::Global;
 

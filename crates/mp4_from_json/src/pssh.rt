@@ -1,11 +1,11 @@
 //! The system of the protection system specific header box.
 
-ghost use Rattle.mp4_extra_from_json.specs.Segments.{system_taken};
+ghost use Rattle.mp4_from_json.specs.Segments.{system_taken};
 
 use mp4_declared::Context;
 use mp4_extra_segments::pssh::{ProtectionSystem, system_name};
 use mp4_frame::u64_at;
-use mp4_from_json::{Object, Reason, Result, TakeShape, hex_in, refuse};
+use crate::{Object, Reason, Result, TakeShape, hex_in, refuse};
 use std::alloc::Global;
 
 /// Returns the array of 16 bytes, or `None` if `bytes` are fewer or more.

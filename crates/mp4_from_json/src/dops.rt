@@ -1,12 +1,12 @@
 //! The mapping of channels of the Opus specific box.
 
-ghost use Rattle.mp4_extra_from_json.specs.Media.{mapping_taken};
+ghost use Rattle.mp4_from_json.specs.Media.{mapping_taken};
 
 use crate::big_endian::push_number;
 use mp4_declared::Context;
 use mp4_extra_media::dops::ChannelMapping;
 use mp4_frame::Entries;
-use mp4_from_json::{Object, Result, TakeShape, take_bytes, take_number};
+use crate::{Object, Result, TakeShape, take_bytes, take_number};
 use mp4_shown::{BytesName, NumberName};
 use std::alloc::Global;
 

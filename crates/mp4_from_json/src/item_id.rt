@@ -6,7 +6,7 @@ ghost use Rattle.mp4_from_json.specs.Numbers.{number_taken};
 
 use mp4_declared::Context;
 use mp4_extra_segments::item_id::ItemId;
-use mp4_from_json::{Object, Result, TakeShape, take_number};
+use crate::{Object, Result, TakeShape, take_number};
 use mp4_shown::NumberName;
 use std::alloc::Global;
 

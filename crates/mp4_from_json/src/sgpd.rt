@@ -2,7 +2,7 @@
 
 ghost use Rattle.mp4_declared.specs.OwnBox.{no_context};
 ghost use Rattle.mp4_extra_samples.specs.declared.sgpd.TheConstants as sgpd;
-ghost use Rattle.mp4_extra_from_json.specs.Samples.{description_taken, sgpd_taken};
+ghost use Rattle.mp4_from_json.specs.Samples.{description_taken, sgpd_taken};
 
 use crate::big_endian::push_number;
 use json::Value;
@@ -12,7 +12,7 @@ use mp4_extra_samples::sgpd::{
     LEVEL, ROLL_DISTANCE, Sgpd, UNKNOWN, kind_of, usual_size,
 };
 use mp4_frame::Entries;
-use mp4_from_json::{
+use crate::{
     NO_CONTEXT, Object, Reason, Result, TakeFields, TakePieces, TakeShape, end_object, object_in,
     refuse, take_bytes, take_numbers, take_pieces, take_signed,
 };

@@ -2,14 +2,14 @@
 
 ghost use Rattle.mp4_declared.specs.OwnBox.{no_context};
 ghost use Rattle.mp4_extra_segments.specs.declared.tfra.TheConstants as tfra;
-ghost use Rattle.mp4_extra_from_json.specs.Segments.{access_taken, tfra_taken};
+ghost use Rattle.mp4_from_json.specs.Segments.{access_taken, tfra_taken};
 
 use crate::big_endian::push_number;
 use json::Value;
 use mp4_declared::{Bits, Full, Last, U32};
 use mp4_extra_segments::tfra::{self, ACCESS, Accesses, Tfra, TfraLengths};
 use mp4_frame::Entries;
-use mp4_from_json::{
+use crate::{
     NO_CONTEXT, Object, Result, TakeFields, TakePieces, TakeShape, end_object, object_in,
     take_number, take_pieces,
 };

@@ -50,7 +50,7 @@ use mp4_extra_segments::sthd::{self, Sthd, SthdShape};
 use mp4_extra_segments::styp::{self, Styp, StypShape};
 use mp4_extra_segments::tenc::{self, Tenc, TencShape};
 use mp4_extra_segments::tref::{self, Tref, TrefShape};
-use mp4_from_json::{NO_CONTEXT, Object, Result, TakeFields, TakeShape};
+use crate::{NO_CONTEXT, Object, Result, TakeFields, TakeShape};
 use std::alloc::Global;
 
 impl TakeFields for Elng {

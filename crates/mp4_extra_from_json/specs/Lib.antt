@@ -1,4 +1,0 @@
-pub mod Entries
-pub mod Media
-pub mod Samples
-pub mod Segments
