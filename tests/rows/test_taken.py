@@ -217,7 +217,8 @@ class Taken(unittest.TestCase):
             ({**TENC, "default_KID": "x" * 32}, "default_KID", "hex"),
             ({**TENC, "default_KID": 0}, "default_KID", "hex"),
             ({**TENC, "default_constant_IV": "ff" * 256}, "default_constant_IV", "length"),
-            ({**TENC, "default_constant_IV": "ff", "default_constant_IV_size": 256}, "default_constant_IV_size", "range"),
+            ({**TENC, "default_constant_IV": "ff", "default_constant_IV_size": 256},
+             "default_constant_IV_size", "range"),
             ({**TENC, "default_constant_IV_size": 8}, "default_constant_IV_size", "unknown"),
         ])
 

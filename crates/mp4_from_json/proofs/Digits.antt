@@ -1,7 +1,8 @@
 -- The numbers that texts of digits are.
 use Rattle.std.proofs.Common.{◌≡◌, ℕ, ℤ, ◌<◌, ◌≤◌, ◌^◌, Bool, true, false, List, length, refl, sym, ap, ◌∙◌, arith}
 use Rattle.std.proofs.lemmas.Str.Parse.{numerals_by_value, tells_all_ascii_digits}
-use Rattle.std.specs.Prelude.{Option, Some, None, Result, Ok, Err, ◌==◌, ◌&&◌, not, nat_lt, if◌then◌else◌, option_and_then}
+use Rattle.std.specs.Prelude.{Option, Some, None, Result, Ok, Err, ◌==◌, ◌&&◌}
+use Rattle.std.specs.Prelude.{not, nat_lt, if◌then◌else◌, option_and_then}
 use Rattle.std.specs.Prelude.{MatchOption, ok_or, OkIff}
 use Rattle.std.specs.Bool.{Decides}
 use Rattle.std.specs.Str.{all_ascii_digits}

@@ -19,14 +19,16 @@ module _ {A : Type 0} (name : List ℕ) where
       → (position_or_len (is_called name) ms < length ms → IsFirstAt ms d (position_or_len (is_called name) ms))
       → cond (not b) (1 + position_or_len (is_called name) ms) 0 < suc (length ms)
       → (if b then Some (value_view m.1, members_view ms)
-        else after_member m.0.now (value_view m.1) (first_of name (members_view ms)))
-      ≡ Some (value_view (get_or (m ∷ ms) (cond (not b) (1 + position_or_len (is_called name) ms) 0) d).1,
-        members_view (remove (m ∷ ms) (cond (not b) (1 + position_or_len (is_called name) ms) 0)))
+      else after_member m.0.now (value_view m.1) (first_of name (members_view ms)))
+      ≡ Some (
+        value_view (get_or (m ∷ ms) (cond (not b) (1 + position_or_len (is_called name) ms) 0) d).1,
+        members_view (remove (m ∷ ms) (cond (not b) (1 + position_or_len (is_called name) ms) 0)),
+      )
   first_by true m ms d others inside = refl
   first_by false m ms d others inside =
       let next : suc (position_or_len (is_called name) ms) ≡ 1 + position_or_len (is_called name) ms = omega arith in
       subst (λ (i : ℕ). after_member m.0.now (value_view m.1) (first_of name (members_view ms))
-        ≡ Some (value_view (get_or (m ∷ ms) i d).1, members_view (remove (m ∷ ms) i))) next
+      ≡ Some (value_view (get_or (m ∷ ms) i d).1, members_view (remove (m ∷ ms) i))) next
       (ap (after_member m.0.now (value_view m.1)) (others (omega (arith, inside))))
 
   first_inside : (ms : List (Member A)) (d : Member A) → position_or_len (is_called name) ms < length ms
@@ -38,7 +40,7 @@ module _ {A : Type 0} (name : List ℕ) where
       → (length ms ≤ position_or_len (is_called name) ms → first_of name (members_view ms) ≡ None)
       → suc (length ms) ≤ cond (not b) (1 + position_or_len (is_called name) ms) 0
       → (if b then Some (value_view m.1, members_view ms)
-        else after_member m.0.now (value_view m.1) (first_of name (members_view ms))) ≡ None
+      else after_member m.0.now (value_view m.1) (first_of name (members_view ms))) ≡ None
   none_by true m ms others outside = absurd (omega (arith, outside))
   none_by false m ms others outside = ap (after_member m.0.now (value_view m.1)) (others (omega (arith, outside)))
 

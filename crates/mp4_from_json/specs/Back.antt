@@ -94,7 +94,8 @@ after_plus (c ∷ cs) h =
 digits_back : (n : ℕ) → n < 2 ^ 64 → number_of_digits (without_leading_plus (decimal n)) ≡ Some n
 digits_back n small =
     let value = (decimal_is_IsNumeral n small).1 in
-    rw (after_plus (decimal n) (decimal_is_IsNumeral n small).0) (rw (plain_digits n small) (rw value (rw (lt-ltb n (2 ^ 64) small) refl)))
+    rw (after_plus (decimal n) (decimal_is_IsNumeral n small).0)
+    (rw (plain_digits n small) (rw value (rw (lt-ltb n (2 ^ 64) small) refl)))
 
 -- what is taken of a number that is there, without a meaning
 module _ (name : List ℕ) (a : NumberAs) (meanings : List Meaning) (bits n : ℕ) (j : Json) (ms : Members)
@@ -181,7 +182,8 @@ module _ {A : Type 0} {before : A → Members → Members} {taken : Takes A} {na
 
   -- a part whose fields are the members of one member
   pub group_comes : (name : List ℕ)
-      → ComesBack A (λ v ms. member name (json.object (before v no_members)) ms) (group_taken name taken) (name ∷ []) Fits
+      → ComesBack A (λ v ms. member name (json.object (before v no_members)) ms) (group_taken name taken) (name ∷ [])
+      Fits
   group_comes name = record {
     back = λ v ms fits absent.
         rw (one_taken name (json.object (before v no_members)) ms absent.0)

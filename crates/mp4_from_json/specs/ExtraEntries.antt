@@ -3,15 +3,11 @@ use Rattle.std.specs.Prelude.{ℕ, ◌^◌, nat_lt, List, [], Ok, length}
 use Rattle.json.specs.Json.{Json}
 use Rattle.mp4_extra_media.specs.declared.hvcc.HevcNalUnit.{HevcNalUnit}
 use Rattle.mp4_from_json.specs.Numbers.{at_path}
-use Rattle.mp4_from_json.specs.Object.{members_in, all_of}
+use Rattle.mp4_from_json.specs.Object.{object_taken}
 use Rattle.mp4_from_json.specs.Shapes.{Takes}
 use Rattle.mp4_from_json.specs.Taking.{Taking, expect, ◌>>=◌}
 use Rattle.mp4_from_json.specs.Values.{hex_in}
 use Rattle.mp4_from_json.specs.declared.error.Reason.TheVariants.{WrongLength}
-
--- an object, of which nothing is left
-abbrev pub object_taken : {A : Type 0} → Takes A → Json → Taking A
-object_taken taken j = members_in [] j >>= λ ms. all_of taken ms
 
 -- an entry that is made of the members of an object
 abbrev pub entry_made : {A B : Type 0} → (A → B) → Takes A → Json → Taking B

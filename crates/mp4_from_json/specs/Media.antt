@@ -25,14 +25,13 @@ use Rattle.mp4_extra_media.specs.declared.dfla.FlacMetadataBlock.{FlacMetadataBl
 use Rattle.mp4_extra_media.specs.declared.dfla.TheConstants as dfla
 use Rattle.mp4_from_json.specs.Lists.{code_taken}
 use Rattle.mp4_from_json.specs.Numbers.{at_path, number_taken, numbers_taken}
-use Rattle.mp4_from_json.specs.Object.{take_out, take_one, has, number_at, is_number}
+use Rattle.mp4_from_json.specs.Object.{object_taken, take_out, take_one, has, number_at, is_number}
 use Rattle.mp4_from_json.specs.Pieces.{pieces_taken}
 use Rattle.mp4_from_json.specs.Runs.{run_taken, run_if}
 use Rattle.mp4_from_json.specs.Shapes.{Takes, layout_taken, made_of, map_taken}
 use Rattle.mp4_from_json.specs.Taking.{Taking, refused, expect, ◌>>=◌}
 use Rattle.mp4_from_json.specs.Values.{hex_in, whole_in}
 use Rattle.mp4_from_json.specs.declared.error.Reason.TheVariants as reasons
-use Rattle.mp4_from_json.specs.ExtraEntries.{object_taken}
 
 -- a length, if it is there, is this one
 abbrev pub length_agrees : List ℕ → ℕ → Option Json → Taking (Unit {0})
@@ -99,8 +98,10 @@ no_dependents ms = is_number 0 (number_at (codes "num_dep_sub") ms)
 abbrev pub stream_members : Takes (List ℕ)
 stream_members ms =
     if no_dependents ms
-    then map_taken (λ ns. be_bytes 3 (joined dec3.STREAM_WIDTHS ns)) (numbers_taken dec3.STREAM.now dec3.STREAM_WIDTHS ms)
-    else map_taken (λ ns. be_bytes 4 (joined dec3.PARENT_WIDTHS ns)) (numbers_taken dec3.PARENT.now dec3.PARENT_WIDTHS ms)
+    then map_taken (λ ns. be_bytes 3 (joined dec3.STREAM_WIDTHS ns))
+    (numbers_taken dec3.STREAM.now dec3.STREAM_WIDTHS ms)
+    else map_taken (λ ns. be_bytes 4 (joined dec3.PARENT_WIDTHS ns))
+    (numbers_taken dec3.PARENT.now dec3.PARENT_WIDTHS ms)
 
 abbrev pub stream_taken : Json → Taking (List ℕ)
 stream_taken j = object_taken stream_members j

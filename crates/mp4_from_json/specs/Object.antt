@@ -1,5 +1,5 @@
 -- The members of an object, which are taken out one by one.
-use Rattle.std.specs.Prelude.{ℕ, ◌==◌, List, Bool, false, if◌then◌else◌, Option, Some, None, is_some, Result, Ok, Err}
+use Rattle.std.specs.Prelude.{ℕ, ◌==◌, List, [], Bool, false, if◌then◌else◌, Option, Some, None, is_some, Result, Ok, Err}
 use Rattle.std.specs.Str.{bytes_eq}
 use Rattle.json.specs.Json.{Json, null, boolean, number, string, array, object, Members, no_members, member}
 use Rattle.json.specs.Value.{members_view}
@@ -66,6 +66,10 @@ members_in path (string s) = refused path NotObject
 members_in path (array js) = refused path NotObject
 members_in path (object ms) = Ok ms
 
--- what is taken out of an object, of which nothing is left
+-- what is taken out of members, of which none is left
 abbrev pub all_of : {A : Type 0} → (Members → Taking (A × Members)) → Members → Taking A
 all_of taken ms = taken ms >>= λ p. ended p.1 >>= λ _. Ok p.0
+
+-- what is taken out of an object, of which nothing is left
+abbrev pub object_taken : {A : Type 0} → (Members → Taking (A × Members)) → Json → Taking A
+object_taken taken j = members_in [] j >>= λ ms. all_of taken ms

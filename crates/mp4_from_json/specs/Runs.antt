@@ -1,5 +1,6 @@
 -- Runs of bytes that are taken out of an object.
-use Rattle.std.specs.Prelude.{ℕ, ◌+◌, ◌^◌, ◌==◌, ◌&&◌, ◌||◌, nat_lt, not, Bool, true, false, List, [], ◌∷◌, ◌++◌, if◌then◌else◌}
+use Rattle.std.specs.Prelude.{ℕ, ◌+◌, ◌^◌, ◌==◌, ◌&&◌, ◌||◌, nat_lt, not, Bool, true}
+use Rattle.std.specs.Prelude.{false, List, [], ◌∷◌, ◌++◌, if◌then◌else◌}
 use Rattle.std.specs.Prelude.{Option, Some, None, Result, Ok, Err, length, drop}
 use Rattle.std.specs.List.{list_any}
 use Rattle.std.specs.Str.Lossy.{utf8_lossy}
@@ -41,6 +42,10 @@ items_in path (string s) = refused path reasons.NotArray
 items_in path (array js) = Ok js
 items_in path (object ms) = refused path reasons.NotArray
 
+-- an array
+abbrev pub array_taken : List ℕ → Members → Taking (Items × Members)
+array_taken name ms = take_one name ms >>= λ p. items_in name p.0 >>= λ js. Ok (js, p.1)
+
 -- an array of numbers
 abbrev pub small_numbers_in : ℕ → List ℕ → Json → Taking (List ℕ)
 small_numbers_in bits name j = items_in name j >>= λ js. each_taken (small_in bits []) name 0 js
@@ -60,6 +65,9 @@ counted_taken name second None ms = Ok ([], ms)
 counted_taken name second (Some j) ms =
     at_path name (hex_in j) >>= λ bytes. take_out second ms >>= λ p.
     count_or_length name second (length bytes) p.0 >>= λ n. Ok (n ∷ bytes, p.1)
+
+abbrev pub counted_by : List ℕ → List ℕ → Members → Taking (List ℕ × Members)
+counted_by name second ms = take_out name ms >>= λ p. counted_taken name second p.0 p.1
 
 -- the bytes of a text, which has a byte of 0 after it if it is ended; and the part of the bytes that is shown
 abbrev pub text_bytes : Bool → List ℕ → List ℕ
@@ -87,7 +95,7 @@ run_by name second bytes_as.Bytes ms =
     take_one name ms >>= λ p. at_path name (hex_in p.0) >>= λ bytes. Ok (bytes, p.1)
 run_by name second bytes_as.SomeBytes ms =
     take_out name ms >>= λ p. hex_or_none name p.0 >>= λ bytes. Ok (bytes, p.1)
-run_by name second bytes_as.Counted ms = take_out name ms >>= λ p. counted_taken name second p.0 p.1
+run_by name second bytes_as.Counted ms = counted_by name second ms
 run_by name second bytes_as.Numbers ms =
     take_out name ms >>= λ p. numbers_or_none name p.0 >>= λ bytes. Ok (bytes, p.1)
 run_by name second bytes_as.Text ms = text_taken name false second ms
@@ -107,3 +115,7 @@ has_no_zero bytes = not (list_any is_zero bytes)
 
 abbrev pub is_pascal : ℕ → List ℕ → Bool
 is_pascal n bytes = nat_lt (length bytes) n && nat_lt (length bytes) 256
+
+-- bytes that pass a check
+abbrev pub checked : Bool → List ℕ → Reason → List ℕ → Taking (List ℕ)
+checked pass name reason bytes = expect pass name reason >>= λ _. Ok bytes

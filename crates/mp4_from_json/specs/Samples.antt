@@ -17,13 +17,12 @@ use Rattle.mp4_extra_samples.specs.declared.stz2.TheConstants as stz2
 use Rattle.mp4_shown.specs.Numbers.{NumberName}
 use Rattle.mp4_from_json.specs.Lists.{length_of}
 use Rattle.mp4_from_json.specs.Numbers.{number_taken, numbers_taken, signed_taken}
-use Rattle.mp4_from_json.specs.Object.{take_one, has}
+use Rattle.mp4_from_json.specs.Object.{object_taken, take_one, has}
 use Rattle.mp4_from_json.specs.Pieces.{pieces_taken}
 use Rattle.mp4_from_json.specs.Runs.{each_taken, items_in, run_taken, run_if, small_in}
 use Rattle.mp4_from_json.specs.Shapes.{Takes, map_taken}
 use Rattle.mp4_from_json.specs.Taking.{Taking, expect, ◌>>=◌}
 use Rattle.mp4_from_json.specs.declared.error.Reason.TheVariants as reasons
-use Rattle.mp4_from_json.specs.ExtraEntries.{object_taken}
 use Rattle.mp4_from_json.specs.Media.{length_taken}
 
 -- ---- sgpd: descriptions by their kind
@@ -68,7 +67,8 @@ fields_or_bytes kind ms = if has sgpd.UNKNOWN.0.now ms then run_taken sgpd.UNKNO
 abbrev pub counted_description : List ℕ → Members → Taking (List ℕ × Members)
 counted_description bytes ms =
     length_taken sgpd.DESCRIPTION_LENGTH.0.now (length bytes) ms >>= λ rest.
-    expect (nat_lt (length bytes) (2 ^ 32)) [] reasons.WrongLength >>= λ _. Ok (be_bytes 4 (length bytes) ++ bytes, rest)
+    expect (nat_lt (length bytes) (2 ^ 32)) [] reasons.WrongLength >>= λ _.
+    Ok (be_bytes 4 (length bytes) ++ bytes, rest)
 
 -- a description, after its length if each has its own
 abbrev pub sized_description : GroupKind → Option ℕ → List ℕ → Members → Taking (List ℕ × Members)

@@ -1,5 +1,6 @@
 -- What is taken of boxes of segments and metadata whose names depend on their values.
-use Rattle.std.specs.Prelude.{ℕ, ℤ, pos, int_le, ◌+◌, ◌-◌, ◌*◌, ◌%◌, ◌^◌, ◌==◌, ◌&&◌, ◌||◌, nat_le, nat_lt, not, Bool, true, false}
+use Rattle.std.specs.Prelude.{ℕ, ℤ, pos, int_le, ◌+◌, ◌-◌, ◌*◌, ◌%◌, ◌^◌, ◌==◌, ◌&&◌}
+use Rattle.std.specs.Prelude.{◌||◌, nat_le, nat_lt, not, Bool, true, false}
 use Rattle.std.specs.Prelude.{List, [], ◌∷◌, ◌++◌, Option, Some, None, if◌then◌else◌, Ok, length}
 use Rattle.std.specs.Int.{w64, cast_unsigned}
 use Rattle.json.specs.Json.{Json, Members}
@@ -23,14 +24,13 @@ use Rattle.mp4_extra_segments.specs.declared.tfra.Tfra.{Tfra}
 use Rattle.mp4_extra_segments.specs.declared.tfra.TfraLengths.{TfraLengths}
 use Rattle.mp4_extra_segments.specs.declared.tfra.TheConstants as tfra
 use Rattle.mp4_from_json.specs.Numbers.{agrees, at_path, number_taken}
-use Rattle.mp4_from_json.specs.Object.{take_out, take_one, has}
+use Rattle.mp4_from_json.specs.Object.{object_taken, take_out, take_one, has}
 use Rattle.mp4_from_json.specs.Pieces.{pieces_taken}
 use Rattle.mp4_from_json.specs.Runs.{run_taken}
 use Rattle.mp4_from_json.specs.Shapes.{Takes}
 use Rattle.mp4_from_json.specs.Taking.{Taking, refused, expect, ◌>>=◌}
 use Rattle.mp4_from_json.specs.Values.{hex_in, or_else, signed_in as signed_number, whole_in}
 use Rattle.mp4_from_json.specs.declared.error.Reason.TheVariants as reasons
-use Rattle.mp4_from_json.specs.ExtraEntries.{object_taken}
 
 -- ---- data: the type says how the value is read
 

@@ -57,11 +57,13 @@ sized fits v = if fits then Ok v else Err reasons.OutOfRange
 
 -- a fixed-point number by its bits, which are fewer than 57; a negative one only if it is rounded to 0
 abbrev pub fixed_of : ℕ → Decimal → Result ℕ Reason
-fixed_of bits d = sized (nat_lt (fixed_bits bits d) (2 ^ 56) && (not d.0 || (fixed_bits bits d == 0))) (fixed_bits bits d)
+fixed_of bits d =
+    sized (nat_lt (fixed_bits bits d) (2 ^ 56) && (not d.0 || (fixed_bits bits d == 0))) (fixed_bits bits d)
 
 abbrev pub signed_fixed_of : ℕ → Decimal → Result ℤ Reason
 signed_fixed_of bits d =
-    sized (nat_lt (fixed_bits bits d) (2 ^ 56)) (if d.0 then neg_ℤ (pos (fixed_bits bits d)) else pos (fixed_bits bits d))
+    sized (nat_lt (fixed_bits bits d) (2 ^ 56))
+    (if d.0 then neg_ℤ (pos (fixed_bits bits d)) else pos (fixed_bits bits d))
 
 -- ---- bytes
 

@@ -2,9 +2,9 @@
 
 ghost use Rattle.mp4_from_json.specs.Media.{av1c_taken};
 
+use crate::{NO_CONTEXT, Object, Result, TakeFields, take_bytes, take_named_by};
 use mp4_declared::{Bits, EntryLayout};
 use mp4_extra_media::av1c::{self, Av1Config, Av1c};
-use crate::{NO_CONTEXT, Object, Result, TakeFields, take_bytes, take_named_by};
 use std::alloc::Global;
 
 /// The flag that says how the last four bits are named.

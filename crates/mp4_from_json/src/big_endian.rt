@@ -23,7 +23,9 @@ pub(crate) fn push_number(
 pub(crate) fn joined(widths: &[u8], numbers: &[u64]) -> u64 {
     let mut joined: u64 = 0;
     for k in 0..widths.len().min(numbers.len()) {
-        joined = joined.wrapping_mul(1 << (widths[k] % 64)).wrapping_add(numbers[k]);
+        joined = joined
+            .wrapping_mul(1 << (widths[k] % 64))
+            .wrapping_add(numbers[k]);
     }
     joined
 }

@@ -28,8 +28,16 @@ pub fn latin_in(text: &str) -> Option<[u8; 4]>
             first = byte;
             continue;
         }
-        let number = if first == 0 { byte } else { 64 * (first - 192) + byte % 64 };
-        let is_whole = if first == 0 { byte < 128 } else { 128 <= byte && byte < 192 };
+        let number = if first == 0 {
+            byte
+        } else {
+            64 * (first - 192) + byte % 64
+        };
+        let is_whole = if first == 0 {
+            byte < 128
+        } else {
+            128 <= byte && byte < 192
+        };
         if !is_whole || count == 4 {
             return None;
         }
@@ -37,7 +45,11 @@ pub fn latin_in(text: &str) -> Option<[u8; 4]>
         count += 1;
         first = 0;
     }
-    if count == 4 && first == 0 { Some(value) } else { None }
+    if count == 4 && first == 0 {
+        Some(value)
+    } else {
+        None
+    }
 }
 
 /// Returns the code that `value` is: a text of four characters, each of the number of its byte.

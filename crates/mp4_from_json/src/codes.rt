@@ -1,12 +1,12 @@
 //! Codes of four characters, and numbers of four bytes up to the end of a box.
 
-ghost use Rattle.std.specs.Prelude.{[], Ok};
+ghost use Rattle.std.specs.Prelude.{[]};
 ghost use Rattle.json.specs.Value.{items_view};
 ghost use Rattle.mp4_from_json.specs.Lists.{code_entry, code_taken};
-ghost use Rattle.mp4_from_json.specs.Object.{left, take_one};
-ghost use Rattle.mp4_from_json.specs.Runs.{items_in, small_in};
+ghost use Rattle.mp4_from_json.specs.Object.{left};
+ghost use Rattle.mp4_from_json.specs.Runs.{array_taken, small_in};
 ghost use Rattle.mp4_from_json.specs.Shapes.{codes_taken, small_taken};
-ghost use Rattle.mp4_from_json.specs.Taking.{TakesAs, ◌>>=◌};
+ghost use Rattle.mp4_from_json.specs.Taking.{TakesAs};
 
 use crate::code::{code_in, take_code};
 use crate::each::{TakeItem, take_each};
@@ -38,7 +38,7 @@ impl TakeShape for Code {
 /// Takes the array called `name` out.
 fn take_array<'a>(alloc: Global, name: &str, object: &mut Object<'a>) -> Result<Vec<Value<'a>>>
     ensures { TakesAs (λ items. (items_view items.items, left object.new)) result
-        (take_one name.now (left object.old) >>= λ p. items_in name.now p.0 >>= λ js. Ok (js, p.1)) }
+        (array_taken name.now (left object.old)) }
 {
     let value = object.take_one(alloc, name)?;
     array_in(alloc, name, value)

@@ -3,12 +3,10 @@
 ghost use Rattle.mp4_from_json.specs.Media.{colr_taken};
 
 use crate::big_endian::push_number;
+use crate::{Object, Result, TakeFields, hex_in, take_code, take_number, take_numbers};
 use mp4_declared::{EntryLayout, OfType};
 use mp4_extra_media::colr::{self, Colr, NCLC, NCLX, Nclx, PROF, RICC};
 use mp4_frame::Entries;
-use crate::{
-    Object, Result, TakeFields, hex_in, take_code, take_number, take_numbers,
-};
 use std::alloc::Global;
 
 /// Takes the numbers of an `nclx` out.

@@ -3,14 +3,14 @@
 ghost use Rattle.mp4_from_json.specs.Segments.{data_taken};
 
 use crate::big_endian::push_number;
-use json::Value;
-use mp4_declared::{U8, U24};
-use mp4_extra_segments::data::{self, Data, signed_width, unsigned_width};
-use mp4_frame::Entries;
 use crate::{
     NO_CONTEXT, Object, Reason, Result, TakeFields, TakeShape, hex_in, refuse, take_bytes,
     take_named_by,
 };
+use json::Value;
+use mp4_declared::{U8, U24};
+use mp4_extra_segments::data::{self, Data, signed_width, unsigned_width};
+use mp4_frame::Entries;
 use std::alloc::Global;
 
 /// The two letters of a country, or the three of a language.

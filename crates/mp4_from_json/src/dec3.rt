@@ -3,16 +3,16 @@
 ghost use Rattle.mp4_from_json.specs.Media.{dec3_taken, stream_taken};
 
 use crate::big_endian::{joined, push_number};
+use crate::{
+    NO_CONTEXT, Object, Result, TakeFields, TakePieces, TakeShape, end_object, object_in,
+    take_numbers, take_pieces,
+};
 use json::Value;
 use mp4_declared::{Bits, EntryLayout};
 use mp4_extra_media::dec3::{
     self, Dec3, Ec3Config, PARENT, PARENT_WIDTHS, STREAM, STREAM_WIDTHS, Streams,
 };
 use mp4_frame::Entries;
-use crate::{
-    NO_CONTEXT, Object, Result, TakeFields, TakePieces, TakeShape, end_object, object_in,
-    take_numbers, take_pieces,
-};
 use std::alloc::Global;
 
 /// The number of streams that depend on a stream.
@@ -46,11 +46,9 @@ impl TakeFields for Dec3 {
     ghost taken = { dec3_taken ⟦<Ec3Config as EntryLayout<2, 2>>⟧.layout };
 
     fn take(alloc: Global, object: &mut Object<'_>) -> Result<Dec3> {
-        let config =
-            Bits::<Ec3Config, 2, 2>::take(alloc, dec3::NAMES.0, NO_CONTEXT, object)?;
+        let config = Bits::<Ec3Config, 2, 2>::take(alloc, dec3::NAMES.0, NO_CONTEXT, object)?;
         let count = u64::from(config.num_ind_sub) + 1;
-        let substreams =
-            take_pieces(alloc, dec3::NAMES.1, Streams, "num_ind_sub", count, object)?;
+        let substreams = take_pieces(alloc, dec3::NAMES.1, Streams, "num_ind_sub", count, object)?;
         Ok(Dec3 { config, substreams })
     }
 }

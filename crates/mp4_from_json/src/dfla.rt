@@ -3,13 +3,13 @@
 ghost use Rattle.mp4_from_json.specs.Media.{block_taken};
 
 use crate::big_endian::push_number;
-use json::Value;
-use mp4_declared::{Bits, Context, EntryLayout};
-use mp4_extra_media::dfla::{BLOCK, FlacBlockKind, FlacMetadataBlock};
 use crate::{
     NO_CONTEXT, Object, Reason, Result, TakeEntry, TakeShape, end_object, object_in, refuse,
     take_bytes, take_number,
 };
+use json::Value;
+use mp4_declared::{Bits, Context, EntryLayout};
+use mp4_extra_media::dfla::{BLOCK, FlacBlockKind, FlacMetadataBlock};
 use mp4_shown::{BytesName, NumberName};
 use std::alloc::Global;
 

@@ -3,10 +3,10 @@
 ghost use Rattle.mp4_from_json.specs.Media.{mapping_taken};
 
 use crate::big_endian::push_number;
+use crate::{Object, Result, TakeShape, take_bytes, take_number};
 use mp4_declared::Context;
 use mp4_extra_media::dops::ChannelMapping;
 use mp4_frame::Entries;
-use crate::{Object, Result, TakeShape, take_bytes, take_number};
 use mp4_shown::{BytesName, NumberName};
 use std::alloc::Global;
 

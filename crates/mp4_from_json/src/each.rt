@@ -18,7 +18,7 @@ pub(crate) trait TakeItem<X> {
 
     /// Takes an entry from `value`.
     fn take(&self, alloc: Global, value: Value<'_>) -> Result<X>
-        ensures { TakesAs (λ x. x) result (taken self.now (value_view value)) };
+        ensures { TakesAs (λ x. x) result (taken self.now (value_view value.entry)) };
 }
 
 /// Takes the entry with the index `index` of the list `name` from `value`.
@@ -29,7 +29,7 @@ fn take_at<X, T: TakeItem<X>>(
     by: &T,
     value: Value<'_>,
 ) -> Result<X>
-    ensures { TakesAs (λ x. x) result (within (entry_path name.now index) (T.taken by.now (value_view value))) }
+    ensures { TakesAs (λ x. x) result (within (entry_path name.now index) (T.taken by.now (value_view value.entry))) }
 {
     match by.take(alloc, value) {
         Ok(entry) => Ok(entry),
@@ -44,7 +44,7 @@ pub(crate) fn take_each<X: Drop, T: TakeItem<X>>(
     by: &T,
     items: Vec<Value<'_>>,
 ) -> Result<Vec<X>>
-    ensures { TakesAs (λ xs. xs.items) result (each_taken (T.taken by.now) name.now 0 (items_view items.items)) }
+    ensures { TakesAs (λ xs. xs.items) result (each_taken (T.taken by.now) name.now 0 (items_view items.entry.items)) }
 {
     let count = items.len();
     let mut rest = VecDeque::from_vec(items);

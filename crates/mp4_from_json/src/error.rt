@@ -153,11 +153,7 @@ fn path_in_entry(
 }
 
 /// Returns a path inside of the group `name`: `opcolor.red`, or `opcolor` if `path` is empty.
-fn path_in_group(
-    alloc: Global,
-    name: &str,
-    path: &str,
-) -> std::result::Result<String, AllocError>
+fn path_in_group(alloc: Global, name: &str, path: &str) -> std::result::Result<String, AllocError>
     ensures { IfOk result (λ whole. string_bytes whole ≡ in_path name.now path.now) }
 {
     let mut whole = String::from_str(alloc, name)?;

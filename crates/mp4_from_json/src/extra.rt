@@ -1,9 +1,9 @@
 //! The box types of `mp4_extra` by their code.
 
+use crate::{Result, TakeFields, read_box};
 use mp4_declared::Declared;
 use mp4_extra::*;
 use mp4_frame::{Holds, codes};
-use crate::{Result, TakeFields, read_box};
 use std::alloc::Global;
 
 /// Returns the box of the type `T` whose JSON is `text`.
@@ -15,8 +15,8 @@ where
     Ok(Some(ExtraBox::wrap(Declared::new(fields))))
 }
 
-/// Returns the box with the code `code` whose JSON is `text`: an object with its fields, in any order. Returns `None` if
-/// no type has this code.
+/// Returns the box with the code `code` whose JSON is `text`: an object with its fields, in any order. Returns `None`
+/// if no type has this code.
 pub fn read_extra(alloc: Global, code: u32, text: &str) -> Result<Option<ExtraBox>> {
     match code {
         codes::ALAC => read_as::<Alac>(alloc, text),

@@ -8,6 +8,8 @@ ghost use Rattle.mp4_extra_segments.specs.declared.ssix.TheConstants as ssix;
 ghost use Rattle.mp4_extra_segments.specs.declared.tref.TheConstants as tref;
 ghost use Rattle.mp4_from_json.specs.ExtraEntries.{entry_made, unit_made};
 
+use crate::{Reason, Result, TakeEntry, TakeShape, hex_in, refuse, take_members};
+use json::Value;
 use mp4_declared::{Context, DeclaredEntry};
 use mp4_extra_media::hvcc::{self, HevcArray, HevcArrayShape, HevcNalUnit};
 use mp4_extra_samples::subs::{self, SubsEntry, SubsEntryShape};
@@ -15,8 +17,6 @@ use mp4_extra_segments::ipma::{self, ItemProperties, ItemPropertiesShape};
 use mp4_extra_segments::keys::{self, MetadataKey, MetadataKeyShape};
 use mp4_extra_segments::ssix::{self, SsixSubsegment, SsixSubsegmentShape};
 use mp4_extra_segments::tref::{self, TrackReference, TrackReferenceShape};
-use crate::{Reason, Result, TakeEntry, TakeShape, hex_in, refuse, take_members};
-use json::Value;
 use std::alloc::Global;
 
 impl TakeEntry for HevcArray {

@@ -4,9 +4,9 @@ ghost use Rattle.std.specs.Prelude.{◌≡◌, ◌*◌};
 ghost use Rattle.mp4_extra_segments.specs.ItemId.{item_width};
 ghost use Rattle.mp4_from_json.specs.Numbers.{number_taken};
 
+use crate::{Object, Result, TakeShape, take_number};
 use mp4_declared::Context;
 use mp4_extra_segments::item_id::ItemId;
-use crate::{Object, Result, TakeShape, take_number};
 use mp4_shown::NumberName;
 use std::alloc::Global;
 

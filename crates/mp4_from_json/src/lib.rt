@@ -1,5 +1,5 @@
-//! For programs that make boxes of their JSON: takes the fields of a box out of a JSON object. What is taken follows from
-//! the shape of the box and the names of its fields, as what `mp4_shown` shows does.
+//! For programs that make boxes of their JSON: takes the fields of a box out of a JSON object. What is taken follows
+//! from the shape of the box and the names of its fields, as what `mp4_shown` shows does.
 #![tactic(auto)]
 
 mod av1c;
@@ -46,8 +46,8 @@ mod typed;
 mod whole;
 
 pub use code::{code_in, latin_in, take_code};
-pub use extra::read_extra;
 pub use error::{Error, Reason, Refusal, Result, refuse};
+pub use extra::read_extra;
 pub use list::take_list;
 pub use named_by::take_named_by;
 pub use number::{NO_CONTEXT, take_number, take_numbers, take_signed};

@@ -18,7 +18,7 @@ use std::alloc::Global;
 
 /// Returns the items of the array `value`. Another value is refused, with the path `path`.
 pub(crate) fn array_in<'a>(alloc: Global, path: &str, value: Value<'a>) -> Result<Vec<Value<'a>>>
-    ensures { TakesAs (λ items. items_view items.items) result (items_in path.now (value_view value)) }
+    ensures { TakesAs (λ items. items_view items.items) result (items_in path.now (value_view value.entry)) }
 {
     match value {
         Value::Array(items) => Ok(items),

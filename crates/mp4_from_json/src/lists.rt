@@ -47,7 +47,7 @@ fn entry_numbers<const N: usize>(
 ) -> Result<[u64; N]>
     requires { N * 8 < 2 ^ 63 }
     ensures value { TakesAs (λ ns. ns) result
-        (entry_numbers (map seen_number names.now) widths.now (value_view value)) }
+        (entry_numbers (map seen_number names.now) widths.now (value_view value.entry)) }
     ensures fit { IfOk result (λ ns. (k : ℕ) → slice_index ns k < 2 ^ slice_index widths.now k) }
 {
     let mut object = object_in(alloc, "", value)?;
@@ -93,7 +93,7 @@ fn row_numbers<const N: usize>(
 ) -> Result<[u64; N]>
     requires { N * 8 < 2 ^ 63 }
     ensures value { TakesAs (λ ns. ns) result
-        (row_numbers list_as (map seen_number names.now) widths.now (value_view value)) }
+        (row_numbers list_as (map seen_number names.now) widths.now (value_view value.entry)) }
     ensures fit { IfOk result (λ ns. (k : ℕ) → slice_index ns k < 2 ^ slice_index widths.now k) }
 {
     match list_as {
@@ -127,7 +127,7 @@ fn take_rows<X: EntryLayout<N, E>, const N: usize, const E: usize>(
     items: Vec<Value<'_>>,
 ) -> Result<Entries<X>>
     ensures { TakesAs (λ xs. xs) result (each_taken (row_taken (layout_in X.layout).value name.entry.1
-        (map seen_number names.now) (widths_of X.layout.fields)) name.entry.0.now 0 (items_view items.items)) }
+        (map seen_number names.now) (widths_of X.layout.fields)) name.entry.0.now 0 (items_view items.entry.items)) }
 {
     let by = RowItem::<'_, N, E> {
         list_as: name.1,
@@ -137,7 +137,8 @@ fn take_rows<X: EntryLayout<N, E>, const N: usize, const E: usize>(
     Ok(entries.into())
 }
 
-impl<C: Count, X: EntryLayout<N, E>, const N: usize, const E: usize> TakeShape for List<C, X, N, E> {
+impl<C: Count, X: EntryLayout<N, E>, const N: usize, const E: usize> TakeShape
+    for List<C, X, N, E> {
     type Taken = Entries<X>;
 
     ghost taken = { λ names c ms. entries_taken (row_taken (layout_in X.layout).value names.0.1 names.1.now

@@ -31,6 +31,7 @@ ghost use Rattle.mp4_extra_media.specs.declared.wvtt.TheConstants as wvtt;
 ghost use Rattle.mp4_declared.specs.OwnBox.{no_context};
 ghost use Rattle.mp4_from_json.specs.Shapes.{made_of};
 
+use crate::{NO_CONTEXT, Object, Result, TakeFields, TakeShape};
 use mp4_declared::DeclaredBox;
 use mp4_extra_media::alac::{self, Alac, AlacShape};
 use mp4_extra_media::auxc::{self, Auxc, AuxcShape};
@@ -60,11 +61,11 @@ use mp4_extra_media::tcmi::{self, Tcmi, TcmiShape};
 use mp4_extra_media::text::{self, Text, TextShape};
 use mp4_extra_media::vvcc::{self, Vvcc, VvccShape};
 use mp4_extra_media::wvtt::{self, Wvtt, WvttShape};
-use crate::{NO_CONTEXT, Object, Result, TakeFields, TakeShape};
 use std::alloc::Global;
 
 impl TakeFields for Alac {
-    ghost taken = { made_of ⟦<Alac as DeclaredBox>⟧.layout.value (⟦<AlacShape as TakeShape>⟧.taken alac.NAMES no_context) };
+    ghost taken = { made_of ⟦<Alac as DeclaredBox>⟧.layout.value
+        (⟦<AlacShape as TakeShape>⟧.taken alac.NAMES no_context) };
 
     fn take(alloc: Global, object: &mut Object<'_>) -> Result<Alac> {
         let content = AlacShape::take(alloc, alac::NAMES, NO_CONTEXT, object)?;
@@ -73,7 +74,8 @@ impl TakeFields for Alac {
 }
 
 impl TakeFields for Auxc {
-    ghost taken = { made_of ⟦<Auxc as DeclaredBox>⟧.layout.value (⟦<AuxcShape as TakeShape>⟧.taken auxc.NAMES no_context) };
+    ghost taken = { made_of ⟦<Auxc as DeclaredBox>⟧.layout.value
+        (⟦<AuxcShape as TakeShape>⟧.taken auxc.NAMES no_context) };
 
     fn take(alloc: Global, object: &mut Object<'_>) -> Result<Auxc> {
         let content = AuxcShape::take(alloc, auxc::NAMES, NO_CONTEXT, object)?;
@@ -82,7 +84,8 @@ impl TakeFields for Auxc {
 }
 
 impl TakeFields for Btrt {
-    ghost taken = { made_of ⟦<Btrt as DeclaredBox>⟧.layout.value (⟦<BtrtShape as TakeShape>⟧.taken btrt.NAMES no_context) };
+    ghost taken = { made_of ⟦<Btrt as DeclaredBox>⟧.layout.value
+        (⟦<BtrtShape as TakeShape>⟧.taken btrt.NAMES no_context) };
 
     fn take(alloc: Global, object: &mut Object<'_>) -> Result<Btrt> {
         let content = BtrtShape::take(alloc, btrt::NAMES, NO_CONTEXT, object)?;
@@ -91,7 +94,8 @@ impl TakeFields for Btrt {
 }
 
 impl TakeFields for Chan {
-    ghost taken = { made_of ⟦<Chan as DeclaredBox>⟧.layout.value (⟦<ChanShape as TakeShape>⟧.taken chan.NAMES no_context) };
+    ghost taken = { made_of ⟦<Chan as DeclaredBox>⟧.layout.value
+        (⟦<ChanShape as TakeShape>⟧.taken chan.NAMES no_context) };
 
     fn take(alloc: Global, object: &mut Object<'_>) -> Result<Chan> {
         let content = ChanShape::take(alloc, chan::NAMES, NO_CONTEXT, object)?;
@@ -100,7 +104,8 @@ impl TakeFields for Chan {
 }
 
 impl TakeFields for Chnl {
-    ghost taken = { made_of ⟦<Chnl as DeclaredBox>⟧.layout.value (⟦<ChnlShape as TakeShape>⟧.taken chnl.NAMES no_context) };
+    ghost taken = { made_of ⟦<Chnl as DeclaredBox>⟧.layout.value
+        (⟦<ChnlShape as TakeShape>⟧.taken chnl.NAMES no_context) };
 
     fn take(alloc: Global, object: &mut Object<'_>) -> Result<Chnl> {
         let content = ChnlShape::take(alloc, chnl::NAMES, NO_CONTEXT, object)?;
@@ -109,7 +114,8 @@ impl TakeFields for Chnl {
 }
 
 impl TakeFields for Clap {
-    ghost taken = { made_of ⟦<Clap as DeclaredBox>⟧.layout.value (⟦<ClapShape as TakeShape>⟧.taken clap.NAMES no_context) };
+    ghost taken = { made_of ⟦<Clap as DeclaredBox>⟧.layout.value
+        (⟦<ClapShape as TakeShape>⟧.taken clap.NAMES no_context) };
 
     fn take(alloc: Global, object: &mut Object<'_>) -> Result<Clap> {
         let content = ClapShape::take(alloc, clap::NAMES, NO_CONTEXT, object)?;
@@ -118,7 +124,8 @@ impl TakeFields for Clap {
 }
 
 impl TakeFields for Clli {
-    ghost taken = { made_of ⟦<Clli as DeclaredBox>⟧.layout.value (⟦<ClliShape as TakeShape>⟧.taken clli.NAMES no_context) };
+    ghost taken = { made_of ⟦<Clli as DeclaredBox>⟧.layout.value
+        (⟦<ClliShape as TakeShape>⟧.taken clli.NAMES no_context) };
 
     fn take(alloc: Global, object: &mut Object<'_>) -> Result<Clli> {
         let content = ClliShape::take(alloc, clli::NAMES, NO_CONTEXT, object)?;
@@ -127,7 +134,8 @@ impl TakeFields for Clli {
 }
 
 impl TakeFields for Dac3 {
-    ghost taken = { made_of ⟦<Dac3 as DeclaredBox>⟧.layout.value (⟦<Dac3Shape as TakeShape>⟧.taken dac3.NAMES no_context) };
+    ghost taken = { made_of ⟦<Dac3 as DeclaredBox>⟧.layout.value
+        (⟦<Dac3Shape as TakeShape>⟧.taken dac3.NAMES no_context) };
 
     fn take(alloc: Global, object: &mut Object<'_>) -> Result<Dac3> {
         let content = Dac3Shape::take(alloc, dac3::NAMES, NO_CONTEXT, object)?;
@@ -136,7 +144,8 @@ impl TakeFields for Dac3 {
 }
 
 impl TakeFields for Dfla {
-    ghost taken = { made_of ⟦<Dfla as DeclaredBox>⟧.layout.value (⟦<DflaShape as TakeShape>⟧.taken dfla.NAMES no_context) };
+    ghost taken = { made_of ⟦<Dfla as DeclaredBox>⟧.layout.value
+        (⟦<DflaShape as TakeShape>⟧.taken dfla.NAMES no_context) };
 
     fn take(alloc: Global, object: &mut Object<'_>) -> Result<Dfla> {
         let content = DflaShape::take(alloc, dfla::NAMES, NO_CONTEXT, object)?;
@@ -145,7 +154,8 @@ impl TakeFields for Dfla {
 }
 
 impl TakeFields for Dops {
-    ghost taken = { made_of ⟦<Dops as DeclaredBox>⟧.layout.value (⟦<DopsShown as TakeShape>⟧.taken dops.NAMES no_context) };
+    ghost taken = { made_of ⟦<Dops as DeclaredBox>⟧.layout.value
+        (⟦<DopsShown as TakeShape>⟧.taken dops.NAMES no_context) };
 
     fn take(alloc: Global, object: &mut Object<'_>) -> Result<Dops> {
         let content = DopsShown::take(alloc, dops::NAMES, NO_CONTEXT, object)?;
@@ -154,7 +164,8 @@ impl TakeFields for Dops {
 }
 
 impl TakeFields for Dvcc {
-    ghost taken = { made_of ⟦<Dvcc as DeclaredBox>⟧.layout.value (⟦<DvccShape as TakeShape>⟧.taken dvcc.NAMES no_context) };
+    ghost taken = { made_of ⟦<Dvcc as DeclaredBox>⟧.layout.value
+        (⟦<DvccShape as TakeShape>⟧.taken dvcc.NAMES no_context) };
 
     fn take(alloc: Global, object: &mut Object<'_>) -> Result<Dvcc> {
         let content = DvccShape::take(alloc, dvcc::NAMES, NO_CONTEXT, object)?;
@@ -163,7 +174,8 @@ impl TakeFields for Dvcc {
 }
 
 impl TakeFields for Dvvc {
-    ghost taken = { made_of ⟦<Dvvc as DeclaredBox>⟧.layout.value (⟦<DvvcShape as TakeShape>⟧.taken dvvc.NAMES no_context) };
+    ghost taken = { made_of ⟦<Dvvc as DeclaredBox>⟧.layout.value
+        (⟦<DvvcShape as TakeShape>⟧.taken dvvc.NAMES no_context) };
 
     fn take(alloc: Global, object: &mut Object<'_>) -> Result<Dvvc> {
         let content = DvvcShape::take(alloc, dvvc::NAMES, NO_CONTEXT, object)?;
@@ -172,7 +184,8 @@ impl TakeFields for Dvvc {
 }
 
 impl TakeFields for Enda {
-    ghost taken = { made_of ⟦<Enda as DeclaredBox>⟧.layout.value (⟦<EndaShape as TakeShape>⟧.taken enda.NAMES no_context) };
+    ghost taken = { made_of ⟦<Enda as DeclaredBox>⟧.layout.value
+        (⟦<EndaShape as TakeShape>⟧.taken enda.NAMES no_context) };
 
     fn take(alloc: Global, object: &mut Object<'_>) -> Result<Enda> {
         let content = EndaShape::take(alloc, enda::NAMES, NO_CONTEXT, object)?;
@@ -181,7 +194,8 @@ impl TakeFields for Enda {
 }
 
 impl TakeFields for Fiel {
-    ghost taken = { made_of ⟦<Fiel as DeclaredBox>⟧.layout.value (⟦<FielShape as TakeShape>⟧.taken fiel.NAMES no_context) };
+    ghost taken = { made_of ⟦<Fiel as DeclaredBox>⟧.layout.value
+        (⟦<FielShape as TakeShape>⟧.taken fiel.NAMES no_context) };
 
     fn take(alloc: Global, object: &mut Object<'_>) -> Result<Fiel> {
         let content = FielShape::take(alloc, fiel::NAMES, NO_CONTEXT, object)?;
@@ -190,7 +204,8 @@ impl TakeFields for Fiel {
 }
 
 impl TakeFields for Gmin {
-    ghost taken = { made_of ⟦<Gmin as DeclaredBox>⟧.layout.value (⟦<GminShape as TakeShape>⟧.taken gmin.NAMES no_context) };
+    ghost taken = { made_of ⟦<Gmin as DeclaredBox>⟧.layout.value
+        (⟦<GminShape as TakeShape>⟧.taken gmin.NAMES no_context) };
 
     fn take(alloc: Global, object: &mut Object<'_>) -> Result<Gmin> {
         let content = GminShape::take(alloc, gmin::NAMES, NO_CONTEXT, object)?;
@@ -199,7 +214,8 @@ impl TakeFields for Gmin {
 }
 
 impl TakeFields for Hvcc {
-    ghost taken = { made_of ⟦<Hvcc as DeclaredBox>⟧.layout.value (⟦<HvccShape as TakeShape>⟧.taken hvcc.NAMES no_context) };
+    ghost taken = { made_of ⟦<Hvcc as DeclaredBox>⟧.layout.value
+        (⟦<HvccShape as TakeShape>⟧.taken hvcc.NAMES no_context) };
 
     fn take(alloc: Global, object: &mut Object<'_>) -> Result<Hvcc> {
         let content = HvccShape::take(alloc, hvcc::NAMES, NO_CONTEXT, object)?;
@@ -208,7 +224,8 @@ impl TakeFields for Hvcc {
 }
 
 impl TakeFields for Imir {
-    ghost taken = { made_of ⟦<Imir as DeclaredBox>⟧.layout.value (⟦<ImirShape as TakeShape>⟧.taken imir.NAMES no_context) };
+    ghost taken = { made_of ⟦<Imir as DeclaredBox>⟧.layout.value
+        (⟦<ImirShape as TakeShape>⟧.taken imir.NAMES no_context) };
 
     fn take(alloc: Global, object: &mut Object<'_>) -> Result<Imir> {
         let content = ImirShape::take(alloc, imir::NAMES, NO_CONTEXT, object)?;
@@ -217,7 +234,8 @@ impl TakeFields for Imir {
 }
 
 impl TakeFields for Irot {
-    ghost taken = { made_of ⟦<Irot as DeclaredBox>⟧.layout.value (⟦<IrotShape as TakeShape>⟧.taken irot.NAMES no_context) };
+    ghost taken = { made_of ⟦<Irot as DeclaredBox>⟧.layout.value
+        (⟦<IrotShape as TakeShape>⟧.taken irot.NAMES no_context) };
 
     fn take(alloc: Global, object: &mut Object<'_>) -> Result<Irot> {
         let content = IrotShape::take(alloc, irot::NAMES, NO_CONTEXT, object)?;
@@ -226,7 +244,8 @@ impl TakeFields for Irot {
 }
 
 impl TakeFields for Ispe {
-    ghost taken = { made_of ⟦<Ispe as DeclaredBox>⟧.layout.value (⟦<IspeShape as TakeShape>⟧.taken ispe.NAMES no_context) };
+    ghost taken = { made_of ⟦<Ispe as DeclaredBox>⟧.layout.value
+        (⟦<IspeShape as TakeShape>⟧.taken ispe.NAMES no_context) };
 
     fn take(alloc: Global, object: &mut Object<'_>) -> Result<Ispe> {
         let content = IspeShape::take(alloc, ispe::NAMES, NO_CONTEXT, object)?;
@@ -235,7 +254,8 @@ impl TakeFields for Ispe {
 }
 
 impl TakeFields for Mdcv {
-    ghost taken = { made_of ⟦<Mdcv as DeclaredBox>⟧.layout.value (⟦<MdcvShape as TakeShape>⟧.taken mdcv.NAMES no_context) };
+    ghost taken = { made_of ⟦<Mdcv as DeclaredBox>⟧.layout.value
+        (⟦<MdcvShape as TakeShape>⟧.taken mdcv.NAMES no_context) };
 
     fn take(alloc: Global, object: &mut Object<'_>) -> Result<Mdcv> {
         let content = MdcvShape::take(alloc, mdcv::NAMES, NO_CONTEXT, object)?;
@@ -244,7 +264,8 @@ impl TakeFields for Mdcv {
 }
 
 impl TakeFields for Pasp {
-    ghost taken = { made_of ⟦<Pasp as DeclaredBox>⟧.layout.value (⟦<PaspShape as TakeShape>⟧.taken pasp.NAMES no_context) };
+    ghost taken = { made_of ⟦<Pasp as DeclaredBox>⟧.layout.value
+        (⟦<PaspShape as TakeShape>⟧.taken pasp.NAMES no_context) };
 
     fn take(alloc: Global, object: &mut Object<'_>) -> Result<Pasp> {
         let content = PaspShape::take(alloc, pasp::NAMES, NO_CONTEXT, object)?;
@@ -253,7 +274,8 @@ impl TakeFields for Pasp {
 }
 
 impl TakeFields for Pixi {
-    ghost taken = { made_of ⟦<Pixi as DeclaredBox>⟧.layout.value (⟦<PixiShape as TakeShape>⟧.taken pixi.NAMES no_context) };
+    ghost taken = { made_of ⟦<Pixi as DeclaredBox>⟧.layout.value
+        (⟦<PixiShape as TakeShape>⟧.taken pixi.NAMES no_context) };
 
     fn take(alloc: Global, object: &mut Object<'_>) -> Result<Pixi> {
         let content = PixiShape::take(alloc, pixi::NAMES, NO_CONTEXT, object)?;
@@ -262,7 +284,8 @@ impl TakeFields for Pixi {
 }
 
 impl TakeFields for Srat {
-    ghost taken = { made_of ⟦<Srat as DeclaredBox>⟧.layout.value (⟦<SratShape as TakeShape>⟧.taken srat.NAMES no_context) };
+    ghost taken = { made_of ⟦<Srat as DeclaredBox>⟧.layout.value
+        (⟦<SratShape as TakeShape>⟧.taken srat.NAMES no_context) };
 
     fn take(alloc: Global, object: &mut Object<'_>) -> Result<Srat> {
         let content = SratShape::take(alloc, srat::NAMES, NO_CONTEXT, object)?;
@@ -271,7 +294,8 @@ impl TakeFields for Srat {
 }
 
 impl TakeFields for Stpp {
-    ghost taken = { made_of ⟦<Stpp as DeclaredBox>⟧.layout.value (⟦<StppShape as TakeShape>⟧.taken stpp.NAMES no_context) };
+    ghost taken = { made_of ⟦<Stpp as DeclaredBox>⟧.layout.value
+        (⟦<StppShape as TakeShape>⟧.taken stpp.NAMES no_context) };
 
     fn take(alloc: Global, object: &mut Object<'_>) -> Result<Stpp> {
         let content = StppShape::take(alloc, stpp::NAMES, NO_CONTEXT, object)?;
@@ -280,7 +304,8 @@ impl TakeFields for Stpp {
 }
 
 impl TakeFields for Tcmi {
-    ghost taken = { made_of ⟦<Tcmi as DeclaredBox>⟧.layout.value (⟦<TcmiShape as TakeShape>⟧.taken tcmi.NAMES no_context) };
+    ghost taken = { made_of ⟦<Tcmi as DeclaredBox>⟧.layout.value
+        (⟦<TcmiShape as TakeShape>⟧.taken tcmi.NAMES no_context) };
 
     fn take(alloc: Global, object: &mut Object<'_>) -> Result<Tcmi> {
         let content = TcmiShape::take(alloc, tcmi::NAMES, NO_CONTEXT, object)?;
@@ -289,7 +314,8 @@ impl TakeFields for Tcmi {
 }
 
 impl TakeFields for Text {
-    ghost taken = { made_of ⟦<Text as DeclaredBox>⟧.layout.value (⟦<TextShape as TakeShape>⟧.taken text.NAMES no_context) };
+    ghost taken = { made_of ⟦<Text as DeclaredBox>⟧.layout.value
+        (⟦<TextShape as TakeShape>⟧.taken text.NAMES no_context) };
 
     fn take(alloc: Global, object: &mut Object<'_>) -> Result<Text> {
         let content = TextShape::take(alloc, text::NAMES, NO_CONTEXT, object)?;
@@ -298,7 +324,8 @@ impl TakeFields for Text {
 }
 
 impl TakeFields for Vvcc {
-    ghost taken = { made_of ⟦<Vvcc as DeclaredBox>⟧.layout.value (⟦<VvccShape as TakeShape>⟧.taken vvcc.NAMES no_context) };
+    ghost taken = { made_of ⟦<Vvcc as DeclaredBox>⟧.layout.value
+        (⟦<VvccShape as TakeShape>⟧.taken vvcc.NAMES no_context) };
 
     fn take(alloc: Global, object: &mut Object<'_>) -> Result<Vvcc> {
         let content = VvccShape::take(alloc, vvcc::NAMES, NO_CONTEXT, object)?;
@@ -307,7 +334,8 @@ impl TakeFields for Vvcc {
 }
 
 impl TakeFields for Wvtt {
-    ghost taken = { made_of ⟦<Wvtt as DeclaredBox>⟧.layout.value (⟦<WvttShape as TakeShape>⟧.taken wvtt.NAMES no_context) };
+    ghost taken = { made_of ⟦<Wvtt as DeclaredBox>⟧.layout.value
+        (⟦<WvttShape as TakeShape>⟧.taken wvtt.NAMES no_context) };
 
     fn take(alloc: Global, object: &mut Object<'_>) -> Result<Wvtt> {
         let content = WvttShape::take(alloc, wvtt::NAMES, NO_CONTEXT, object)?;

@@ -85,10 +85,7 @@ fn number_in_hex(count: usize, value: &Value<'_>) -> std::result::Result<u64, Re
 }
 
 /// Returns the number that `value` is if it is shown so.
-pub(crate) fn number_by(
-    number_as: NumberAs,
-    value: &Value<'_>,
-) -> std::result::Result<u64, Reason>
+pub(crate) fn number_by(number_as: NumberAs, value: &Value<'_>) -> std::result::Result<u64, Reason>
     ensures { result ≡ number_in number_as (value_view value.now) }
 {
     match number_as {
@@ -224,7 +221,8 @@ pub fn take_number(
     bits: u32,
     object: &mut Object<'_>,
 ) -> Result<u64>
-    ensures { TakesAs (λ n. (n, left object.new)) result (number_taken (seen_number name.entry) bits (left object.old)) }
+    ensures { TakesAs (λ n. (n, left object.new)) result
+        (number_taken (seen_number name.entry) bits (left object.old)) }
 {
     let (name, number_as, meanings) = name;
     let value = object.take_out(alloc, name)?;

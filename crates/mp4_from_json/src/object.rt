@@ -24,7 +24,7 @@ fn position_of(members: &[(&str, Value<'_>)], name: &str) -> Option<usize>
 {
     members.iter().position(
         |member: &(&str, Value<'_>)| -> bool
-            ensures { result ≡ is_called name.now member.now }
+            ensures { result ≡ is_called name.entry.now member.now }
         { member.0 == name },
     )
 }
@@ -98,7 +98,7 @@ pub fn end_object(alloc: Global, object: &Object<'_>) -> Result<()>
 
 /// Returns the members of the object `value`. Another value is refused, with the path `path`.
 pub fn object_in<'a>(alloc: Global, path: &str, value: Value<'a>) -> Result<Object<'a>>
-    ensures { TakesAs left result (members_in path.now (value_view value)) }
+    ensures { TakesAs left result (members_in path.now (value_view value.entry)) }
 {
     match value {
         Value::Object(members) => Ok(Object { members }),

@@ -26,7 +26,7 @@ pub trait TakePieces: Pieces {
 
     /// Takes the bytes of a piece from the value of an entry.
     fn take(&self, alloc: Global, value: Value<'_>) -> Result<Entries<u8>>
-        ensures { TakesAs (λ bytes. bytes) result (taken self.now (value_view value)) };
+        ensures { TakesAs (λ bytes. bytes) result (taken self.now (value_view value.entry)) };
 }
 
 /// An entry that is a piece.

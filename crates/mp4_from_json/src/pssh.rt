@@ -2,10 +2,10 @@
 
 ghost use Rattle.mp4_from_json.specs.Segments.{system_taken};
 
+use crate::{Object, Reason, Result, TakeShape, hex_in, refuse};
 use mp4_declared::Context;
 use mp4_extra_segments::pssh::{ProtectionSystem, system_name};
 use mp4_frame::u64_at;
-use crate::{Object, Reason, Result, TakeShape, hex_in, refuse};
 use std::alloc::Global;
 
 /// Returns the array of 16 bytes, or `None` if `bytes` are fewer or more.

@@ -1,13 +1,13 @@
 //! Runs of bytes that are taken out of an object.
 
-ghost use Rattle.std.specs.Prelude.{◌≡◌, [], Ok, option_map};
+ghost use Rattle.std.specs.Prelude.{◌≡◌, [], option_map};
 ghost use Rattle.json.specs.Value.{value_view};
 ghost use Rattle.mp4_shown.specs.Runs.{seen_bytes, unended};
 ghost use Rattle.mp4_from_json.specs.Numbers.{at_path};
-ghost use Rattle.mp4_from_json.specs.Object.{left, take_out};
-ghost use Rattle.mp4_from_json.specs.Runs.{count_or_length, counted_taken, run_taken, small_in, small_numbers_in};
+ghost use Rattle.mp4_from_json.specs.Object.{left};
+ghost use Rattle.mp4_from_json.specs.Runs.{checked, count_or_length, counted_by, run_taken, small_in, small_numbers_in};
 ghost use Rattle.mp4_from_json.specs.Runs.{text_in, text_taken};
-ghost use Rattle.mp4_from_json.specs.Taking.{TakesAs, expect, ◌>>=◌};
+ghost use Rattle.mp4_from_json.specs.Taking.{TakesAs};
 ghost use Rattle.mp4_from_json.specs.Values.{hex_in};
 
 use crate::each::{TakeItem, take_each};
@@ -64,7 +64,7 @@ impl TakeItem<u8> for ByteItem {
 
 /// Returns the bytes that the numbers of the array `value` are. `name` is its name.
 fn numbers_in(alloc: Global, name: &str, value: Value<'_>) -> Result<Vec<u8>>
-    ensures { TakesAs (λ bytes. bytes.items) result (small_numbers_in 8 name.now (value_view value)) }
+    ensures { TakesAs (λ bytes. bytes.items) result (small_numbers_in 8 name.now (value_view value.entry)) }
 {
     let items = array_in(alloc, name, value)?;
     take_each(alloc, name, &ByteItem, items)
@@ -94,14 +94,9 @@ fn count_or_length(
 }
 
 /// Takes a byte that counts and the bytes after it out, if they are present.
-fn take_counted(
-    alloc: Global,
-    name: &str,
-    second: &str,
-    object: &mut Object<'_>,
-) -> Result<Vec<u8>>
+fn take_counted(alloc: Global, name: &str, second: &str, object: &mut Object<'_>) -> Result<Vec<u8>>
     ensures { TakesAs (λ bytes. (bytes.items, left object.new)) result
-        (take_out name.now (left object.old) >>= λ p. counted_taken name.now second.now p.0 p.1) }
+        (counted_by name.now second.now (left object.old)) }
 {
     let mut bytes = Vec::new(alloc);
     let Some(value) = object.take_out(alloc, name)? else {
@@ -164,8 +159,8 @@ fn text_in(
     Ok(bytes)
 }
 
-/// Takes a text out, and the bytes beside it if they are present. Returns its bytes. An ended text has a byte of 0 after
-/// it.
+/// Takes a text out, and the bytes beside it if they are present. Returns its bytes. An ended text has a byte of 0
+/// after it.
 pub fn take_text(
     alloc: Global,
     name: &str,
@@ -215,7 +210,7 @@ pub fn check_bytes(
     reason: Reason,
 ) -> Result<Vec<u8>>
     ensures { TakesAs (λ bytes. bytes.items) result
-        (expect pass name.entry.0.now reason >>= λ _. Ok bytes.items) }
+        (checked pass name.entry.0.now reason bytes.items) }
 {
     if pass {
         Ok(bytes)

@@ -26,6 +26,7 @@ ghost use Rattle.mp4_extra_segments.specs.declared.tref.TheConstants as tref;
 ghost use Rattle.mp4_declared.specs.OwnBox.{no_context};
 ghost use Rattle.mp4_from_json.specs.Shapes.{made_of};
 
+use crate::{NO_CONTEXT, Object, Result, TakeFields, TakeShape};
 use mp4_declared::DeclaredBox;
 use mp4_extra_segments::elng::{self, Elng, ElngShape};
 use mp4_extra_segments::frma::{self, Frma, FrmaShape};
@@ -50,11 +51,11 @@ use mp4_extra_segments::sthd::{self, Sthd, SthdShape};
 use mp4_extra_segments::styp::{self, Styp, StypShape};
 use mp4_extra_segments::tenc::{self, Tenc, TencShape};
 use mp4_extra_segments::tref::{self, Tref, TrefShape};
-use crate::{NO_CONTEXT, Object, Result, TakeFields, TakeShape};
 use std::alloc::Global;
 
 impl TakeFields for Elng {
-    ghost taken = { made_of ⟦<Elng as DeclaredBox>⟧.layout.value (⟦<ElngShape as TakeShape>⟧.taken elng.NAMES no_context) };
+    ghost taken = { made_of ⟦<Elng as DeclaredBox>⟧.layout.value
+        (⟦<ElngShape as TakeShape>⟧.taken elng.NAMES no_context) };
 
     fn take(alloc: Global, object: &mut Object<'_>) -> Result<Elng> {
         let content = ElngShape::take(alloc, elng::NAMES, NO_CONTEXT, object)?;
@@ -63,7 +64,8 @@ impl TakeFields for Elng {
 }
 
 impl TakeFields for Frma {
-    ghost taken = { made_of ⟦<Frma as DeclaredBox>⟧.layout.value (⟦<FrmaShape as TakeShape>⟧.taken frma.NAMES no_context) };
+    ghost taken = { made_of ⟦<Frma as DeclaredBox>⟧.layout.value
+        (⟦<FrmaShape as TakeShape>⟧.taken frma.NAMES no_context) };
 
     fn take(alloc: Global, object: &mut Object<'_>) -> Result<Frma> {
         let content = FrmaShape::take(alloc, frma::NAMES, NO_CONTEXT, object)?;
@@ -72,7 +74,8 @@ impl TakeFields for Frma {
 }
 
 impl TakeFields for Hmhd {
-    ghost taken = { made_of ⟦<Hmhd as DeclaredBox>⟧.layout.value (⟦<HmhdShape as TakeShape>⟧.taken hmhd.NAMES no_context) };
+    ghost taken = { made_of ⟦<Hmhd as DeclaredBox>⟧.layout.value
+        (⟦<HmhdShape as TakeShape>⟧.taken hmhd.NAMES no_context) };
 
     fn take(alloc: Global, object: &mut Object<'_>) -> Result<Hmhd> {
         let content = HmhdShape::take(alloc, hmhd::NAMES, NO_CONTEXT, object)?;
@@ -81,7 +84,8 @@ impl TakeFields for Hmhd {
 }
 
 impl TakeFields for Iloc {
-    ghost taken = { made_of ⟦<Iloc as DeclaredBox>⟧.layout.value (⟦<IlocShape as TakeShape>⟧.taken iloc.NAMES no_context) };
+    ghost taken = { made_of ⟦<Iloc as DeclaredBox>⟧.layout.value
+        (⟦<IlocShape as TakeShape>⟧.taken iloc.NAMES no_context) };
 
     fn take(alloc: Global, object: &mut Object<'_>) -> Result<Iloc> {
         let content = IlocShape::take(alloc, iloc::NAMES, NO_CONTEXT, object)?;
@@ -90,7 +94,8 @@ impl TakeFields for Iloc {
 }
 
 impl TakeFields for Iods {
-    ghost taken = { made_of ⟦<Iods as DeclaredBox>⟧.layout.value (⟦<IodsShape as TakeShape>⟧.taken iods.NAMES no_context) };
+    ghost taken = { made_of ⟦<Iods as DeclaredBox>⟧.layout.value
+        (⟦<IodsShape as TakeShape>⟧.taken iods.NAMES no_context) };
 
     fn take(alloc: Global, object: &mut Object<'_>) -> Result<Iods> {
         let content = IodsShape::take(alloc, iods::NAMES, NO_CONTEXT, object)?;
@@ -99,7 +104,8 @@ impl TakeFields for Iods {
 }
 
 impl TakeFields for Ipma {
-    ghost taken = { made_of ⟦<Ipma as DeclaredBox>⟧.layout.value (⟦<IpmaShape as TakeShape>⟧.taken ipma.NAMES no_context) };
+    ghost taken = { made_of ⟦<Ipma as DeclaredBox>⟧.layout.value
+        (⟦<IpmaShape as TakeShape>⟧.taken ipma.NAMES no_context) };
 
     fn take(alloc: Global, object: &mut Object<'_>) -> Result<Ipma> {
         let content = IpmaShape::take(alloc, ipma::NAMES, NO_CONTEXT, object)?;
@@ -108,7 +114,8 @@ impl TakeFields for Ipma {
 }
 
 impl TakeFields for Keys {
-    ghost taken = { made_of ⟦<Keys as DeclaredBox>⟧.layout.value (⟦<KeysShape as TakeShape>⟧.taken keys.NAMES no_context) };
+    ghost taken = { made_of ⟦<Keys as DeclaredBox>⟧.layout.value
+        (⟦<KeysShape as TakeShape>⟧.taken keys.NAMES no_context) };
 
     fn take(alloc: Global, object: &mut Object<'_>) -> Result<Keys> {
         let content = KeysShape::take(alloc, keys::NAMES, NO_CONTEXT, object)?;
@@ -117,7 +124,8 @@ impl TakeFields for Keys {
 }
 
 impl TakeFields for Kind {
-    ghost taken = { made_of ⟦<Kind as DeclaredBox>⟧.layout.value (⟦<KindShape as TakeShape>⟧.taken kind.NAMES no_context) };
+    ghost taken = { made_of ⟦<Kind as DeclaredBox>⟧.layout.value
+        (⟦<KindShape as TakeShape>⟧.taken kind.NAMES no_context) };
 
     fn take(alloc: Global, object: &mut Object<'_>) -> Result<Kind> {
         let content = KindShape::take(alloc, kind::NAMES, NO_CONTEXT, object)?;
@@ -126,7 +134,8 @@ impl TakeFields for Kind {
 }
 
 impl TakeFields for Leva {
-    ghost taken = { made_of ⟦<Leva as DeclaredBox>⟧.layout.value (⟦<LevaShape as TakeShape>⟧.taken leva.NAMES no_context) };
+    ghost taken = { made_of ⟦<Leva as DeclaredBox>⟧.layout.value
+        (⟦<LevaShape as TakeShape>⟧.taken leva.NAMES no_context) };
 
     fn take(alloc: Global, object: &mut Object<'_>) -> Result<Leva> {
         let content = LevaShape::take(alloc, leva::NAMES, NO_CONTEXT, object)?;
@@ -135,7 +144,8 @@ impl TakeFields for Leva {
 }
 
 impl TakeFields for Mean {
-    ghost taken = { made_of ⟦<Mean as DeclaredBox>⟧.layout.value (⟦<MeanShape as TakeShape>⟧.taken mean.NAMES no_context) };
+    ghost taken = { made_of ⟦<Mean as DeclaredBox>⟧.layout.value
+        (⟦<MeanShape as TakeShape>⟧.taken mean.NAMES no_context) };
 
     fn take(alloc: Global, object: &mut Object<'_>) -> Result<Mean> {
         let content = MeanShape::take(alloc, mean::NAMES, NO_CONTEXT, object)?;
@@ -144,7 +154,8 @@ impl TakeFields for Mean {
 }
 
 impl TakeFields for Mfro {
-    ghost taken = { made_of ⟦<Mfro as DeclaredBox>⟧.layout.value (⟦<MfroShape as TakeShape>⟧.taken mfro.NAMES no_context) };
+    ghost taken = { made_of ⟦<Mfro as DeclaredBox>⟧.layout.value
+        (⟦<MfroShape as TakeShape>⟧.taken mfro.NAMES no_context) };
 
     fn take(alloc: Global, object: &mut Object<'_>) -> Result<Mfro> {
         let content = MfroShape::take(alloc, mfro::NAMES, NO_CONTEXT, object)?;
@@ -153,7 +164,8 @@ impl TakeFields for Mfro {
 }
 
 impl TakeFields for Name {
-    ghost taken = { made_of ⟦<Name as DeclaredBox>⟧.layout.value (⟦<NameShape as TakeShape>⟧.taken name.NAMES no_context) };
+    ghost taken = { made_of ⟦<Name as DeclaredBox>⟧.layout.value
+        (⟦<NameShape as TakeShape>⟧.taken name.NAMES no_context) };
 
     fn take(alloc: Global, object: &mut Object<'_>) -> Result<Name> {
         let content = NameShape::take(alloc, name::NAMES, NO_CONTEXT, object)?;
@@ -162,7 +174,8 @@ impl TakeFields for Name {
 }
 
 impl TakeFields for Nmhd {
-    ghost taken = { made_of ⟦<Nmhd as DeclaredBox>⟧.layout.value (⟦<NmhdShape as TakeShape>⟧.taken nmhd.NAMES no_context) };
+    ghost taken = { made_of ⟦<Nmhd as DeclaredBox>⟧.layout.value
+        (⟦<NmhdShape as TakeShape>⟧.taken nmhd.NAMES no_context) };
 
     fn take(alloc: Global, object: &mut Object<'_>) -> Result<Nmhd> {
         let content = NmhdShape::take(alloc, nmhd::NAMES, NO_CONTEXT, object)?;
@@ -171,7 +184,8 @@ impl TakeFields for Nmhd {
 }
 
 impl TakeFields for Pitm {
-    ghost taken = { made_of ⟦<Pitm as DeclaredBox>⟧.layout.value (⟦<PitmShape as TakeShape>⟧.taken pitm.NAMES no_context) };
+    ghost taken = { made_of ⟦<Pitm as DeclaredBox>⟧.layout.value
+        (⟦<PitmShape as TakeShape>⟧.taken pitm.NAMES no_context) };
 
     fn take(alloc: Global, object: &mut Object<'_>) -> Result<Pitm> {
         let content = PitmShape::take(alloc, pitm::NAMES, NO_CONTEXT, object)?;
@@ -180,7 +194,8 @@ impl TakeFields for Pitm {
 }
 
 impl TakeFields for Prft {
-    ghost taken = { made_of ⟦<Prft as DeclaredBox>⟧.layout.value (⟦<PrftShape as TakeShape>⟧.taken prft.NAMES no_context) };
+    ghost taken = { made_of ⟦<Prft as DeclaredBox>⟧.layout.value
+        (⟦<PrftShape as TakeShape>⟧.taken prft.NAMES no_context) };
 
     fn take(alloc: Global, object: &mut Object<'_>) -> Result<Prft> {
         let content = PrftShape::take(alloc, prft::NAMES, NO_CONTEXT, object)?;
@@ -189,7 +204,8 @@ impl TakeFields for Prft {
 }
 
 impl TakeFields for Pssh {
-    ghost taken = { made_of ⟦<Pssh as DeclaredBox>⟧.layout.value (⟦<PsshShown as TakeShape>⟧.taken pssh.NAMES no_context) };
+    ghost taken = { made_of ⟦<Pssh as DeclaredBox>⟧.layout.value
+        (⟦<PsshShown as TakeShape>⟧.taken pssh.NAMES no_context) };
 
     fn take(alloc: Global, object: &mut Object<'_>) -> Result<Pssh> {
         let content = PsshShown::take(alloc, pssh::NAMES, NO_CONTEXT, object)?;
@@ -198,7 +214,8 @@ impl TakeFields for Pssh {
 }
 
 impl TakeFields for Schm {
-    ghost taken = { made_of ⟦<Schm as DeclaredBox>⟧.layout.value (⟦<SchmShape as TakeShape>⟧.taken schm.NAMES no_context) };
+    ghost taken = { made_of ⟦<Schm as DeclaredBox>⟧.layout.value
+        (⟦<SchmShape as TakeShape>⟧.taken schm.NAMES no_context) };
 
     fn take(alloc: Global, object: &mut Object<'_>) -> Result<Schm> {
         let content = SchmShape::take(alloc, schm::NAMES, NO_CONTEXT, object)?;
@@ -207,7 +224,8 @@ impl TakeFields for Schm {
 }
 
 impl TakeFields for Sidx {
-    ghost taken = { made_of ⟦<Sidx as DeclaredBox>⟧.layout.value (⟦<SidxShape as TakeShape>⟧.taken sidx.NAMES no_context) };
+    ghost taken = { made_of ⟦<Sidx as DeclaredBox>⟧.layout.value
+        (⟦<SidxShape as TakeShape>⟧.taken sidx.NAMES no_context) };
 
     fn take(alloc: Global, object: &mut Object<'_>) -> Result<Sidx> {
         let content = SidxShape::take(alloc, sidx::NAMES, NO_CONTEXT, object)?;
@@ -216,7 +234,8 @@ impl TakeFields for Sidx {
 }
 
 impl TakeFields for Ssix {
-    ghost taken = { made_of ⟦<Ssix as DeclaredBox>⟧.layout.value (⟦<SsixShape as TakeShape>⟧.taken ssix.NAMES no_context) };
+    ghost taken = { made_of ⟦<Ssix as DeclaredBox>⟧.layout.value
+        (⟦<SsixShape as TakeShape>⟧.taken ssix.NAMES no_context) };
 
     fn take(alloc: Global, object: &mut Object<'_>) -> Result<Ssix> {
         let content = SsixShape::take(alloc, ssix::NAMES, NO_CONTEXT, object)?;
@@ -225,7 +244,8 @@ impl TakeFields for Ssix {
 }
 
 impl TakeFields for Sthd {
-    ghost taken = { made_of ⟦<Sthd as DeclaredBox>⟧.layout.value (⟦<SthdShape as TakeShape>⟧.taken sthd.NAMES no_context) };
+    ghost taken = { made_of ⟦<Sthd as DeclaredBox>⟧.layout.value
+        (⟦<SthdShape as TakeShape>⟧.taken sthd.NAMES no_context) };
 
     fn take(alloc: Global, object: &mut Object<'_>) -> Result<Sthd> {
         let content = SthdShape::take(alloc, sthd::NAMES, NO_CONTEXT, object)?;
@@ -234,7 +254,8 @@ impl TakeFields for Sthd {
 }
 
 impl TakeFields for Styp {
-    ghost taken = { made_of ⟦<Styp as DeclaredBox>⟧.layout.value (⟦<StypShape as TakeShape>⟧.taken styp.NAMES no_context) };
+    ghost taken = { made_of ⟦<Styp as DeclaredBox>⟧.layout.value
+        (⟦<StypShape as TakeShape>⟧.taken styp.NAMES no_context) };
 
     fn take(alloc: Global, object: &mut Object<'_>) -> Result<Styp> {
         let content = StypShape::take(alloc, styp::NAMES, NO_CONTEXT, object)?;
@@ -243,7 +264,8 @@ impl TakeFields for Styp {
 }
 
 impl TakeFields for Tenc {
-    ghost taken = { made_of ⟦<Tenc as DeclaredBox>⟧.layout.value (⟦<TencShape as TakeShape>⟧.taken tenc.NAMES no_context) };
+    ghost taken = { made_of ⟦<Tenc as DeclaredBox>⟧.layout.value
+        (⟦<TencShape as TakeShape>⟧.taken tenc.NAMES no_context) };
 
     fn take(alloc: Global, object: &mut Object<'_>) -> Result<Tenc> {
         let content = TencShape::take(alloc, tenc::NAMES, NO_CONTEXT, object)?;
@@ -252,7 +274,8 @@ impl TakeFields for Tenc {
 }
 
 impl TakeFields for Tref {
-    ghost taken = { made_of ⟦<Tref as DeclaredBox>⟧.layout.value (⟦<TrefShape as TakeShape>⟧.taken tref.NAMES no_context) };
+    ghost taken = { made_of ⟦<Tref as DeclaredBox>⟧.layout.value
+        (⟦<TrefShape as TakeShape>⟧.taken tref.NAMES no_context) };
 
     fn take(alloc: Global, object: &mut Object<'_>) -> Result<Tref> {
         let content = TrefShape::take(alloc, tref::NAMES, NO_CONTEXT, object)?;

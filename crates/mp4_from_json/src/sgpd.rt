@@ -5,6 +5,10 @@ ghost use Rattle.mp4_extra_samples.specs.declared.sgpd.TheConstants as sgpd;
 ghost use Rattle.mp4_from_json.specs.Samples.{description_taken, sgpd_taken};
 
 use crate::big_endian::push_number;
+use crate::{
+    NO_CONTEXT, Object, Reason, Result, TakeFields, TakePieces, TakeShape, end_object, object_in,
+    refuse, take_bytes, take_numbers, take_pieces, take_signed,
+};
 use json::Value;
 use mp4_declared::{Code, FromVersion, Full, If, Last, U32};
 use mp4_extra_samples::sgpd::{
@@ -12,15 +16,19 @@ use mp4_extra_samples::sgpd::{
     LEVEL, ROLL_DISTANCE, Sgpd, UNKNOWN, kind_of, usual_size,
 };
 use mp4_frame::Entries;
-use crate::{
-    NO_CONTEXT, Object, Reason, Result, TakeFields, TakePieces, TakeShape, end_object, object_in,
-    refuse, take_bytes, take_numbers, take_pieces, take_signed,
-};
 use mp4_shown::NumberName;
 use std::alloc::Global;
 
 /// The fields before the descriptions.
-type Front = Full<3, (Code, If<FromVersion<1>, U32>, If<FromVersion<2>, U32>, Last<U32>)>;
+type Front = Full<
+    3,
+    (
+        Code,
+        If<FromVersion<1>, U32>,
+        If<FromVersion<2>, U32>,
+        Last<U32>,
+    ),
+>;
 
 /// Takes a bit and the seven bits after it out.
 fn take_bit_and_rest(
@@ -36,8 +44,12 @@ fn take_bit_and_rest(
 
 /// Takes the fields of a `seig` out.
 fn take_encryption(alloc: Global, object: &mut Object<'_>) -> Result<Vec<u8>> {
-    let [reserved, crypt, skip, protected, size] =
-        take_numbers(alloc, ENCRYPTION, &[8, 4, 4, 8, 8], object)?;
+    let [reserved, crypt, skip, protected, size] = take_numbers(
+        alloc,
+        ENCRYPTION,
+        &[8, 4, 4, 8, 8],
+        object,
+    )?;
     let mut bytes = Vec::new(alloc);
     push_number(reserved, 1, &mut bytes)?;
     push_number(crypt * 16 + skip, 1, &mut bytes)?;
@@ -132,11 +144,37 @@ impl TakePieces for Descriptions {
 }
 
 impl TakeFields for Sgpd {
-    ghost taken = { sgpd_taken (⟦<Front as TakeShape>⟧.taken
-        (sgpd.NAMES.0, (sgpd.NAMES.1.0, (sgpd.NAMES.1.1.0, (sgpd.NAMES.1.1.1.0, (sgpd.NAMES.1.1.1.1.0, (sgpd.NAMES.1.1.1.1.1.0, tt)))))) no_context) };
+    ghost taken = { sgpd_taken (⟦<Front as TakeShape>⟧.taken (
+      sgpd.NAMES.0,
+      (
+        sgpd.NAMES.1.0,
+        (
+          sgpd.NAMES.1.1.0,
+          (
+            sgpd.NAMES.1.1.1.0,
+            (
+              sgpd.NAMES.1.1.1.1.0,
+              (sgpd.NAMES.1.1.1.1.1.0, tt),
+            ),
+          ),
+        ),
+      ),
+    ) no_context) };
 
     fn take(alloc: Global, object: &mut Object<'_>) -> Result<Sgpd> {
-        let names = (sgpd::NAMES.0, (sgpd::NAMES.1.0, (sgpd::NAMES.1.1.0, (sgpd::NAMES.1.1.1.0, (sgpd::NAMES.1.1.1.1.0, (sgpd::NAMES.1.1.1.1.1.0, ()))))));
+        let names = (
+            sgpd::NAMES.0,
+            (
+                sgpd::NAMES.1.0,
+                (
+                    sgpd::NAMES.1.1.0,
+                    (
+                        sgpd::NAMES.1.1.1.0,
+                        (sgpd::NAMES.1.1.1.1.0, (sgpd::NAMES.1.1.1.1.1.0, ())),
+                    ),
+                ),
+            ),
+        );
         let (version, (flags, front)) = Front::take(alloc, names, NO_CONTEXT, object)?;
         let (grouping_type, (default_length, (default_group_description_index, count))) = front;
         let (entry_count, ()) = count;

@@ -67,7 +67,11 @@ fn least(version: u8) -> i64
 fn most(version: u8) -> i64
     ensures { result ≡ (if version == 0 then pos (2 ^ 31 - 1) else pos (2 ^ 63 - 1)) }
 {
-    if version == 0 { (1 << 31) - 1 } else { i64::MAX }
+    if version == 0 {
+        (1 << 31) - 1
+    } else {
+        i64::MAX
+    }
 }
 
 impl TakeShape for SignedTime {

@@ -4,26 +4,20 @@ ghost use Rattle.mp4_declared.specs.OwnBox.{no_context};
 ghost use Rattle.mp4_extra_samples.specs.declared.stz2.TheConstants as stz2;
 ghost use Rattle.mp4_from_json.specs.Samples.{stz2_taken};
 
+use crate::{
+    NO_CONTEXT, Object, Reason, Result, TakeFields, TakeShape, refuse, take_bytes, take_number,
+};
 use json::Value;
 use mp4_declared::{Full, Last, U8, U32};
 use mp4_extra_samples::stz2::{self, Stz2};
 use mp4_frame::Entries;
-use crate::{
-    NO_CONTEXT, Object, Reason, Result, TakeFields, TakeShape, refuse, take_bytes, take_number,
-};
 use std::alloc::Global;
 
 /// The fields before the sizes.
 type Front = Full<1, (U8, Last<U32>)>;
 
 /// Returns the size of `bits` bits that `value` is.
-fn size_in(
-    alloc: Global,
-    name: &str,
-    bits: u8,
-    index: usize,
-    value: &Value<'_>,
-) -> Result<u16> {
+fn size_in(alloc: Global, name: &str, bits: u8, index: usize, value: &Value<'_>) -> Result<u16> {
     let reason = match value.as_u64() {
         Some(size) => {
             if bits <= 16 && size < 1 << bits {
@@ -81,11 +75,7 @@ fn take_entries(
         return Err(refuse(alloc, name, Reason::NotArray));
     };
     if items.len() != count as usize {
-        return Err(refuse(
-            alloc,
-            stz2::NAMES.1.1.1.0.0,
-            Reason::Contradiction,
-        ));
+        return Err(refuse(alloc, stz2::NAMES.1.1.1.0.0, Reason::Contradiction));
     }
     if bits != 4 && bits != 8 && bits != 16 {
         return Err(refuse(alloc, stz2::NAMES.1.1.0.0, Reason::OutOfRange));
@@ -110,7 +100,13 @@ impl TakeFields for Stz2 {
         (stz2.NAMES.0, (stz2.NAMES.1.0, (stz2.NAMES.1.1.0, (stz2.NAMES.1.1.1.0, tt)))) no_context) };
 
     fn take(alloc: Global, object: &mut Object<'_>) -> Result<Stz2> {
-        let names = (stz2::NAMES.0, (stz2::NAMES.1.0, (stz2::NAMES.1.1.0, (stz2::NAMES.1.1.1.0, ()))));
+        let names = (
+            stz2::NAMES.0,
+            (
+                stz2::NAMES.1.0,
+                (stz2::NAMES.1.1.0, (stz2::NAMES.1.1.1.0, ())),
+            ),
+        );
         let (version, (flags, front)) = Front::take(alloc, names, NO_CONTEXT, object)?;
         let (field_size, (sample_count, ())) = front;
         let entry_sizes = take_entries(alloc, field_size, sample_count, object)?;

@@ -20,7 +20,7 @@ pub trait TakeShape: NamedShape {
     type Taken: Drop;
 
     /// What is taken out of an object under these names, and the members that are left.
-    ghost taken: { Self.Seen → Context → Members → Taking (Taken × Members) };
+    ghost taken: { Self.Seen → Context → Members → Taking (Self.Taken × Members) };
 
     /// Takes the fields of a value out of `object`, by their names.
     fn take(
@@ -50,5 +50,5 @@ pub trait TakeEntry: Sized + Drop {
 
     /// Takes the entry from `value`.
     fn take(alloc: Global, context: Context, value: Value<'_>) -> Result<Self>
-        ensures { TakesAs (λ x. x) result (taken context (value_view value)) };
+        ensures { TakesAs (λ x. x) result (taken context (value_view value.entry)) };
 }

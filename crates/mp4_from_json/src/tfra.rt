@@ -5,14 +5,14 @@ ghost use Rattle.mp4_extra_segments.specs.declared.tfra.TheConstants as tfra;
 ghost use Rattle.mp4_from_json.specs.Segments.{access_taken, tfra_taken};
 
 use crate::big_endian::push_number;
-use json::Value;
-use mp4_declared::{Bits, Full, Last, U32};
-use mp4_extra_segments::tfra::{self, ACCESS, Accesses, Tfra, TfraLengths};
-use mp4_frame::Entries;
 use crate::{
     NO_CONTEXT, Object, Result, TakeFields, TakePieces, TakeShape, end_object, object_in,
     take_number, take_pieces,
 };
+use json::Value;
+use mp4_declared::{Bits, Full, Last, U32};
+use mp4_extra_segments::tfra::{self, ACCESS, Accesses, Tfra, TfraLengths};
+use mp4_frame::Entries;
 use std::alloc::Global;
 
 /// The fields before the entries.
@@ -59,7 +59,16 @@ impl TakeFields for Tfra {
         (tfra.NAMES.0, (tfra.NAMES.1.0, (tfra.NAMES.1.1.0, (tfra.NAMES.1.1.1.0, (tfra.NAMES.1.1.1.1.0, tt))))) no_context) };
 
     fn take(alloc: Global, object: &mut Object<'_>) -> Result<Tfra> {
-        let names = (tfra::NAMES.0, (tfra::NAMES.1.0, (tfra::NAMES.1.1.0, (tfra::NAMES.1.1.1.0, (tfra::NAMES.1.1.1.1.0, ())))));
+        let names = (
+            tfra::NAMES.0,
+            (
+                tfra::NAMES.1.0,
+                (
+                    tfra::NAMES.1.1.0,
+                    (tfra::NAMES.1.1.1.0, (tfra::NAMES.1.1.1.1.0, ())),
+                ),
+            ),
+        );
         let (version, (flags, front)) = Front::take(alloc, names, NO_CONTEXT, object)?;
         let (track_id, (lengths, (number_of_entry, ()))) = front;
         let accesses = Accesses { version, lengths };

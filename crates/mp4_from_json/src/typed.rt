@@ -25,10 +25,7 @@ impl<K: Tag, S: TakeShape, T: TakeShape> TakeShape for Typed<K, S, T> {
         if tag == K::TAG {
             Ok(OfType::Own(S::take(alloc, names.1.0, context, object)?))
         } else {
-            Ok(OfType::Other(
-                tag,
-                T::take(alloc, names.1.1, context, object)?,
-            ))
+            Ok(OfType::Other(tag, T::take(alloc, names.1.1, context, object)?))
         }
     }
 }

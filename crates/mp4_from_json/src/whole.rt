@@ -1,11 +1,11 @@
 //! Whole objects, of which nothing is left.
 
-ghost use Rattle.std.specs.Prelude.{◌≡◌, [], None};
+ghost use Rattle.std.specs.Prelude.{◌≡◌};
 ghost use Rattle.json.specs.Json.{document};
 ghost use Rattle.json.specs.Value.{value_view};
-ghost use Rattle.mp4_from_json.specs.Object.{all_of, left, members_in};
+ghost use Rattle.mp4_from_json.specs.Object.{all_of, left, object_taken};
 ghost use Rattle.mp4_from_json.specs.Shapes.{document_taken};
-ghost use Rattle.mp4_from_json.specs.Taking.{TakesAs, ◌>>=◌};
+ghost use Rattle.mp4_from_json.specs.Taking.{TakesAs};
 
 use crate::error::{Error, Reason, Result, refuse};
 use crate::object::{Object, end_object, object_in};
@@ -36,7 +36,7 @@ pub fn take_members<S: TakeShape>(
     value: Value<'_>,
 ) -> Result<S::Taken>
     ensures { TakesAs (λ v. v) result
-        (members_in [] (value_view value) >>= λ ms. all_of (S.TakeShape.taken (S.seen names) context) ms) }
+        (object_taken (S.TakeShape.taken (S.seen names) context) (value_view value.entry)) }
 {
     let mut object = object_in(alloc, "", value)?;
     take_all::<S>(alloc, names, context, &mut object)
@@ -44,7 +44,7 @@ pub fn take_members<S: TakeShape>(
 
 /// Takes a box from an object, of which nothing may be left.
 fn take_box<B: TakeFields>(alloc: Global, value: Value<'_>) -> Result<B>
-    ensures { TakesAs (λ b. b) result (members_in [] (value_view value) >>= λ ms. all_of B.taken ms) }
+    ensures { TakesAs (λ b. b) result (object_taken B.taken (value_view value.entry)) }
 {
     let mut object = object_in(alloc, "", value)?;
     let taken = B::take(alloc, &mut object)?;
