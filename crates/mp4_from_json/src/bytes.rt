@@ -11,11 +11,15 @@ use crate::run::{check_bytes, take_bytes};
 use crate::take::TakeShape;
 use mp4_declared::{Array, Bytes, Context, Count, Pascal, Rest, Terminated};
 use mp4_frame::Entries;
-use mp4_shown::BytesName;
+use mp4_shown::{BytesName, NamedShape};
 use std::alloc::Global;
 
 impl TakeShape for Rest {
     type Taken = Entries<u8>;
+
+    ghost Known = { ⟦<Rest as NamedShape>⟧.Seen };
+
+    ghost known = { ⟦<Rest as NamedShape>⟧.seen };
 
     ghost taken = { λ name c ms. run_taken name ms };
 
@@ -31,6 +35,10 @@ impl TakeShape for Rest {
 
 impl<C: Count> TakeShape for Bytes<C> {
     type Taken = Entries<u8>;
+
+    ghost Known = { ⟦<Bytes<C> as NamedShape>⟧.Seen };
+
+    ghost known = { ⟦<Bytes<C> as NamedShape>⟧.seen };
 
     ghost taken = { λ name c ms. run_if name (λ bytes. nat_lt (length bytes) (256 ^ C.WIDTH)) WrongLength ms };
 
@@ -56,6 +64,10 @@ fn has_no_zero(bytes: &[u8]) -> bool
 impl TakeShape for Terminated {
     type Taken = Entries<u8>;
 
+    ghost Known = { ⟦<Terminated as NamedShape>⟧.Seen };
+
+    ghost known = { ⟦<Terminated as NamedShape>⟧.seen };
+
     ghost taken = { λ name c ms. run_if name has_no_zero ZeroByte ms };
 
     fn take(
@@ -72,6 +84,10 @@ impl TakeShape for Terminated {
 
 impl<const N: usize> TakeShape for Pascal<N> {
     type Taken = Entries<u8>;
+
+    ghost Known = { ⟦<Pascal<N> as NamedShape>⟧.Seen };
+
+    ghost known = { ⟦<Pascal<N> as NamedShape>⟧.seen };
 
     ghost taken = { λ name c ms. run_if name (is_pascal N) WrongLength ms };
 
@@ -99,6 +115,10 @@ pub(crate) fn array_of<const N: usize>(bytes: &[u8]) -> [u8; N]
 
 impl<const N: usize> TakeShape for Array<N> {
     type Taken = [u8; N];
+
+    ghost Known = { ⟦<Array<N> as NamedShape>⟧.Seen };
+
+    ghost known = { ⟦<Array<N> as NamedShape>⟧.seen };
 
     ghost taken = { λ name c ms. run_if name (λ bytes. length bytes == N) WrongLength ms };
 

@@ -18,10 +18,15 @@ use crate::take::TakeShape;
 use json::Value;
 use mp4_declared::{Code, Codes, Context, Numbers};
 use mp4_frame::{Entries, FourCC};
+use mp4_shown::NamedShape;
 use std::alloc::Global;
 
 impl TakeShape for Code {
     type Taken = FourCC;
+
+    ghost Known = { ⟦<Code as NamedShape>⟧.Seen };
+
+    ghost known = { ⟦<Code as NamedShape>⟧.seen };
 
     ghost taken = { λ name c ms. code_taken name.now ms };
 
@@ -62,6 +67,10 @@ impl TakeItem<FourCC> for CodeItem {
 impl TakeShape for Codes {
     type Taken = Entries<FourCC>;
 
+    ghost Known = { ⟦<Codes as NamedShape>⟧.Seen };
+
+    ghost known = { ⟦<Codes as NamedShape>⟧.seen };
+
     ghost taken = { λ name c ms. codes_taken name.now ms };
 
     fn take(
@@ -90,6 +99,10 @@ impl TakeItem<u32> for WordItem {
 
 impl TakeShape for Numbers {
     type Taken = Entries<u32>;
+
+    ghost Known = { ⟦<Numbers as NamedShape>⟧.Seen };
+
+    ghost known = { ⟦<Numbers as NamedShape>⟧.seen };
 
     ghost taken = { λ name c ms. small_taken 32 name.now ms };
 

@@ -7,11 +7,15 @@ use crate::{Object, Result, TakeShape, take_bytes, take_number};
 use mp4_declared::Context;
 use mp4_extra_media::dops::ChannelMapping;
 use mp4_frame::Entries;
-use mp4_shown::{BytesName, NumberName};
+use mp4_shown::{BytesName, NamedShape, NumberName};
 use std::alloc::Global;
 
 impl TakeShape for ChannelMapping {
     type Taken = Entries<u8>;
+
+    ghost Known = { ⟦<ChannelMapping as NamedShape>⟧.Seen };
+
+    ghost known = { ⟦<ChannelMapping as NamedShape>⟧.seen };
 
     ghost taken = { λ names c ms. mapping_taken names ms };
 

@@ -11,7 +11,7 @@ use crate::take::{TakeEntry, TakeShape};
 use json::Value;
 use mp4_declared::{Context, Count, Each, EachToEnd};
 use mp4_frame::Entries;
-use mp4_shown::{EntriesOf, ListName, ShownEntry};
+use mp4_shown::{EntriesOf, ListName, NamedShape, ShownEntry};
 use std::alloc::Global;
 
 /// An entry that is an `X` in a context.
@@ -31,6 +31,10 @@ impl<X: TakeEntry> TakeItem<X> for EntryItem {
 impl<C: Count, X: ShownEntry + TakeEntry> TakeShape for Each<C, X> {
     type Taken = Entries<X>;
 
+    ghost Known = { ⟦<Each<C, X> as NamedShape>⟧.Seen };
+
+    ghost known = { ⟦<Each<C, X> as NamedShape>⟧.seen };
+
     ghost taken = { λ name c ms. entries_taken (X.TakeEntry.taken c) name (list_below (256 ^ C.WIDTH) name ms) };
 
     fn take(
@@ -48,6 +52,10 @@ impl<C: Count, X: ShownEntry + TakeEntry> TakeShape for Each<C, X> {
 impl<X: ShownEntry + TakeEntry> TakeShape for EachToEnd<X> {
     type Taken = Entries<X>;
 
+    ghost Known = { ⟦<EachToEnd<X> as NamedShape>⟧.Seen };
+
+    ghost known = { ⟦<EachToEnd<X> as NamedShape>⟧.seen };
+
     ghost taken = { λ name c ms. entries_taken (X.TakeEntry.taken c) name (list_taken name ms) };
 
     fn take(
@@ -64,6 +72,10 @@ impl<X: ShownEntry + TakeEntry> TakeShape for EachToEnd<X> {
 
 impl<X: ShownEntry + TakeEntry> TakeShape for EntriesOf<X> {
     type Taken = Entries<X>;
+
+    ghost Known = { ⟦<EntriesOf<X> as NamedShape>⟧.Seen };
+
+    ghost known = { ⟦<EntriesOf<X> as NamedShape>⟧.seen };
 
     ghost taken = { λ name c ms. entries_taken (X.TakeEntry.taken c) name (list_taken name ms) };
 

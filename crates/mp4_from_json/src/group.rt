@@ -1,5 +1,6 @@
 //! Parts that are the members of one member.
 
+ghost use Rattle.mp4_shown.specs.Event.{Text, seen_text};
 ghost use Rattle.mp4_from_json.specs.Shapes.{group_taken};
 
 use crate::error::Result;
@@ -12,6 +13,10 @@ use std::alloc::Global;
 
 impl<S: TakeShape> TakeShape for Group<S> {
     type Taken = S::Taken;
+
+    ghost Known = { Text × S.TakeShape.Known };
+
+    ghost known = { λ names. (seen_text names.0, S.TakeShape.known names.1) };
 
     ghost taken = { λ names c ms. group_taken names.0.now (S.TakeShape.taken names.1 c) ms };
 

@@ -7,7 +7,7 @@ ghost use Rattle.mp4_from_json.specs.Numbers.{number_taken};
 use crate::{Object, Result, TakeShape, take_number};
 use mp4_declared::Context;
 use mp4_extra_segments::item_id::ItemId;
-use mp4_shown::NumberName;
+use mp4_shown::{NamedShape, NumberName};
 use std::alloc::Global;
 
 /// Returns the number of bits of the number of an item in `version`.
@@ -19,6 +19,10 @@ fn item_bits<const V: u8>(version: u8) -> u32
 
 impl<const V: u8> TakeShape for ItemId<V> {
     type Taken = u32;
+
+    ghost Known = { ⟦<ItemId<V> as NamedShape>⟧.Seen };
+
+    ghost known = { ⟦<ItemId<V> as NamedShape>⟧.seen };
 
     ghost taken = { λ name c ms. number_taken name (8 * item_width V c.version) ms };
 

@@ -19,11 +19,15 @@ use crate::take::TakeShape;
 use json::Value;
 use mp4_declared::{Bits, Context, Count, EntryLayout, List, ListByVersion, ToEnd};
 use mp4_frame::Entries;
-use mp4_shown::{ListAs, ListName, NumberName};
+use mp4_shown::{ListAs, ListName, NamedShape, NumberName};
 use std::alloc::Global;
 
 impl<X: EntryLayout<N, E>, const N: usize, const E: usize> TakeShape for Bits<X, N, E> {
     type Taken = X;
+
+    ghost Known = { ⟦<Bits<X, N, E> as NamedShape>⟧.Seen };
+
+    ghost known = { ⟦<Bits<X, N, E> as NamedShape>⟧.seen };
 
     ghost taken = { λ names c ms. layout_taken X.layout names.now ms };
 
@@ -141,6 +145,10 @@ impl<C: Count, X: EntryLayout<N, E>, const N: usize, const E: usize> TakeShape
     for List<C, X, N, E> {
     type Taken = Entries<X>;
 
+    ghost Known = { ⟦<List<C, X, N, E> as NamedShape>⟧.Seen };
+
+    ghost known = { ⟦<List<C, X, N, E> as NamedShape>⟧.seen };
+
     ghost taken = { λ names c ms. entries_taken (row_taken (layout_in X.layout).value names.0.1 names.1.now
         (widths_of X.layout.fields)) names.0 (list_below (256 ^ C.WIDTH) names.0 ms) };
 
@@ -163,6 +171,10 @@ where
 {
     type Taken = Entries<X>;
 
+    ghost Known = { ⟦<ListByVersion<C, X, N, E, F> as NamedShape>⟧.Seen };
+
+    ghost known = { ⟦<ListByVersion<C, X, N, E, F> as NamedShape>⟧.seen };
+
     ghost taken = { λ names c ms. if c.version == 0 then ⟦<List<C, X, N, E> as TakeShape>⟧.taken names c ms
         else ⟦<List<C, X, N, F> as TakeShape>⟧.taken names c ms };
 
@@ -182,6 +194,10 @@ where
 
 impl<X: EntryLayout<N, E>, const N: usize, const E: usize> TakeShape for ToEnd<X, N, E> {
     type Taken = Entries<X>;
+
+    ghost Known = { ⟦<ToEnd<X, N, E> as NamedShape>⟧.Seen };
+
+    ghost known = { ⟦<ToEnd<X, N, E> as NamedShape>⟧.seen };
 
     ghost taken = { λ names c ms. entries_taken (row_taken (layout_in X.layout).value names.0.1 names.1.now
         (widths_of X.layout.fields)) names.0 (list_taken names.0 ms) };

@@ -19,8 +19,8 @@ pub fn take_named_by<S: TakeShape>(
     object: &mut Object<'_>,
 ) -> Result<S::Taken>
     ensures { TakesAs (λ v. (v, left object.new)) result
-        (if holds then S.TakeShape.taken (S.seen names.0) context (left object.old)
-        else S.TakeShape.taken (S.seen names.1) context (left object.old)) }
+        (if holds then S.TakeShape.taken (S.TakeShape.known names.0) context (left object.old)
+        else S.TakeShape.taken (S.TakeShape.known names.1) context (left object.old)) }
 {
     if holds {
         S::take(alloc, names.0, context, object)

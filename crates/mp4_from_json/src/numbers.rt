@@ -8,11 +8,15 @@ use crate::number::take_number;
 use crate::object::Object;
 use crate::take::TakeShape;
 use mp4_declared::{Context, Time, U8, U16, U24, U32, U64, Zeros};
-use mp4_shown::NumberName;
+use mp4_shown::{NamedShape, NumberName};
 use std::alloc::Global;
 
 impl TakeShape for U8 {
     type Taken = u8;
+
+    ghost Known = { ⟦<U8 as NamedShape>⟧.Seen };
+
+    ghost known = { ⟦<U8 as NamedShape>⟧.seen };
 
     ghost taken = { λ name c ms. number_taken name 8 ms };
 
@@ -29,6 +33,10 @@ impl TakeShape for U8 {
 impl TakeShape for U16 {
     type Taken = u16;
 
+    ghost Known = { ⟦<U16 as NamedShape>⟧.Seen };
+
+    ghost known = { ⟦<U16 as NamedShape>⟧.seen };
+
     ghost taken = { λ name c ms. number_taken name 16 ms };
 
     fn take(
@@ -43,6 +51,10 @@ impl TakeShape for U16 {
 
 impl TakeShape for U24 {
     type Taken = u32;
+
+    ghost Known = { ⟦<U24 as NamedShape>⟧.Seen };
+
+    ghost known = { ⟦<U24 as NamedShape>⟧.seen };
 
     ghost taken = { λ name c ms. number_taken name 24 ms };
 
@@ -59,6 +71,10 @@ impl TakeShape for U24 {
 impl TakeShape for U32 {
     type Taken = u32;
 
+    ghost Known = { ⟦<U32 as NamedShape>⟧.Seen };
+
+    ghost known = { ⟦<U32 as NamedShape>⟧.seen };
+
     ghost taken = { λ name c ms. number_taken name 32 ms };
 
     fn take(
@@ -73,6 +89,10 @@ impl TakeShape for U32 {
 
 impl TakeShape for U64 {
     type Taken = u64;
+
+    ghost Known = { ⟦<U64 as NamedShape>⟧.Seen };
+
+    ghost known = { ⟦<U64 as NamedShape>⟧.seen };
 
     ghost taken = { λ name c ms. number_taken name 64 ms };
 
@@ -96,6 +116,10 @@ fn time_bits(version: u8) -> u32
 impl TakeShape for Time {
     type Taken = u64;
 
+    ghost Known = { ⟦<Time as NamedShape>⟧.Seen };
+
+    ghost known = { ⟦<Time as NamedShape>⟧.seen };
+
     ghost taken = { λ name c ms. number_taken name (if c.version == 0 then 32 else 64) ms };
 
     fn take(
@@ -111,6 +135,10 @@ impl TakeShape for Time {
 /// Reserved bytes aren't shown, and have no member.
 impl<const N: usize> TakeShape for Zeros<N> {
     type Taken = ();
+
+    ghost Known = { ⟦<Zeros<N> as NamedShape>⟧.Seen };
+
+    ghost known = { ⟦<Zeros<N> as NamedShape>⟧.seen };
 
     ghost taken = { λ names c ms. Ok (tt, ms) };
 

@@ -11,6 +11,10 @@ use std::alloc::Global;
 impl<P: Condition, S: TakeShape> TakeShape for If<P, S> {
     type Taken = Option<S::Taken>;
 
+    ghost Known = { S.TakeShape.Known };
+
+    ghost known = { S.TakeShape.known };
+
     ghost taken = { λ names c ms. taken_if (P.holds c) (S.TakeShape.taken names c) ms };
 
     fn take(
@@ -29,6 +33,10 @@ impl<P: Condition, S: TakeShape> TakeShape for If<P, S> {
 
 impl<P: Condition, S: TakeShape, const N: usize> TakeShape for OrZeros<P, S, N> {
     type Taken = Option<S::Taken>;
+
+    ghost Known = { S.TakeShape.Known };
+
+    ghost known = { S.TakeShape.known };
 
     ghost taken = { λ names c ms. taken_if (P.holds c) (S.TakeShape.taken names c) ms };
 

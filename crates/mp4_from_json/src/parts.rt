@@ -1,5 +1,6 @@
 //! Shapes that follow one another, and shapes with a front that isn't shown.
 
+ghost use Rattle.mp4_shown.specs.Numbers.{NumberName as SeenName, seen_number};
 ghost use Rattle.mp4_from_json.specs.Shapes.{full_taken, map_taken, pair_taken};
 
 use crate::error::{Reason, Result, refuse};
@@ -11,6 +12,10 @@ use std::alloc::Global;
 
 impl<A: TakeShape, B: TakeShape> TakeShape for (A, B) {
     type Taken = (A::Taken, B::Taken);
+
+    ghost Known = { A.TakeShape.Known × B.TakeShape.Known };
+
+    ghost known = { λ names. (A.TakeShape.known names.0, B.TakeShape.known names.1) };
 
     ghost taken = { λ names c ms. pair_taken (A.TakeShape.taken names.0 c) (B.TakeShape.taken names.1 c) ms };
 
@@ -29,6 +34,10 @@ impl<A: TakeShape, B: TakeShape> TakeShape for (A, B) {
 impl<S: TakeShape> TakeShape for Last<S> {
     type Taken = (S::Taken, ());
 
+    ghost Known = { S.TakeShape.Known × Unit {0} };
+
+    ghost known = { λ names. (S.TakeShape.known names.0, tt) };
+
     ghost taken = { λ names c ms. map_taken (λ v. (v, tt)) (S.TakeShape.taken names.0 c ms) };
 
     fn take(
@@ -43,6 +52,10 @@ impl<S: TakeShape> TakeShape for Last<S> {
 
 impl<const N: usize, S: TakeShape> TakeShape for Reserved<N, S> {
     type Taken = S::Taken;
+
+    ghost Known = { S.TakeShape.Known };
+
+    ghost known = { S.TakeShape.known };
 
     ghost taken = { S.TakeShape.taken };
 
@@ -60,6 +73,10 @@ impl<const N: usize, S: TakeShape> TakeShape for Reserved<N, S> {
 impl<S: TakeShape> TakeShape for WithSize<S> {
     type Taken = S::Taken;
 
+    ghost Known = { S.TakeShape.Known };
+
+    ghost known = { S.TakeShape.known };
+
     ghost taken = { S.TakeShape.taken };
 
     fn take(
@@ -74,6 +91,10 @@ impl<S: TakeShape> TakeShape for WithSize<S> {
 
 impl<const N: usize, S: TakeShape> TakeShape for Full<N, S> {
     type Taken = (u8, (u32, S::Taken));
+
+    ghost Known = { SeenName × (SeenName × S.TakeShape.Known) };
+
+    ghost known = { λ names. (seen_number names.0, (seen_number names.1.0, S.TakeShape.known names.1.1)) };
 
     ghost taken = { λ names c ms. full_taken N names.0 names.1.0 (S.TakeShape.taken names.1.1) ms };
 

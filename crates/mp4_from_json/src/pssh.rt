@@ -6,6 +6,7 @@ use crate::{Object, Reason, Result, TakeShape, hex_in, refuse};
 use mp4_declared::Context;
 use mp4_extra_segments::pssh::{ProtectionSystem, system_name};
 use mp4_frame::u64_at;
+use mp4_shown::NamedShape;
 use std::alloc::Global;
 
 /// Returns the array of 16 bytes, or `None` if `bytes` are fewer or more.
@@ -37,6 +38,10 @@ fn take_name(alloc: Global, name: &str, id: &[u8; 16], object: &mut Object<'_>) 
 
 impl TakeShape for ProtectionSystem {
     type Taken = [u8; 16];
+
+    ghost Known = { ⟦<ProtectionSystem as NamedShape>⟧.Seen };
+
+    ghost known = { ⟦<ProtectionSystem as NamedShape>⟧.seen };
 
     ghost taken = { λ names c ms. system_taken names ms };
 

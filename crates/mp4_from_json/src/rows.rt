@@ -14,7 +14,7 @@ use hex::{FromHex, FromHexError};
 use json::Value;
 use mp4_declared::{Context, Count, Rows};
 use mp4_frame::Entries;
-use mp4_shown::ListName;
+use mp4_shown::{ListName, NamedShape};
 use std::alloc::Global;
 
 /// Returns the `E` bytes whose hexadecimal digits are the text `value`.
@@ -48,6 +48,10 @@ impl<const E: usize> TakeItem<[u8; E]> for BytesItem<E> {
 
 impl<C: Count, const E: usize> TakeShape for Rows<C, E> {
     type Taken = Entries<[u8; E]>;
+
+    ghost Known = { ⟦<Rows<C, E> as NamedShape>⟧.Seen };
+
+    ghost known = { ⟦<Rows<C, E> as NamedShape>⟧.seen };
 
     ghost taken = { λ name c ms. entries_taken (bytes_entry E) name (list_below (256 ^ C.WIDTH) name ms) };
 

@@ -8,11 +8,15 @@ use crate::number::take_signed;
 use crate::object::Object;
 use crate::take::TakeShape;
 use mp4_declared::{Context, I8, I16, I32, SignedTime};
-use mp4_shown::NumberName;
+use mp4_shown::{NamedShape, NumberName};
 use std::alloc::Global;
 
 impl TakeShape for I8 {
     type Taken = i8;
+
+    ghost Known = { ⟦<I8 as NamedShape>⟧.Seen };
+
+    ghost known = { ⟦<I8 as NamedShape>⟧.seen };
 
     ghost taken = { λ name c ms. signed_taken name (negsuc (2 ^ 7 - 1)) (pos (2 ^ 7 - 1)) ms };
 
@@ -29,6 +33,10 @@ impl TakeShape for I8 {
 impl TakeShape for I16 {
     type Taken = i16;
 
+    ghost Known = { ⟦<I16 as NamedShape>⟧.Seen };
+
+    ghost known = { ⟦<I16 as NamedShape>⟧.seen };
+
     ghost taken = { λ name c ms. signed_taken name (negsuc (2 ^ 15 - 1)) (pos (2 ^ 15 - 1)) ms };
 
     fn take(
@@ -43,6 +51,10 @@ impl TakeShape for I16 {
 
 impl TakeShape for I32 {
     type Taken = i32;
+
+    ghost Known = { ⟦<I32 as NamedShape>⟧.Seen };
+
+    ghost known = { ⟦<I32 as NamedShape>⟧.seen };
 
     ghost taken = { λ name c ms. signed_taken name (negsuc (2 ^ 31 - 1)) (pos (2 ^ 31 - 1)) ms };
 
@@ -76,6 +88,10 @@ fn most(version: u8) -> i64
 
 impl TakeShape for SignedTime {
     type Taken = i64;
+
+    ghost Known = { ⟦<SignedTime as NamedShape>⟧.Seen };
+
+    ghost known = { ⟦<SignedTime as NamedShape>⟧.seen };
 
     ghost taken = { λ name c ms. signed_taken name (if c.version == 0 then negsuc (2 ^ 31 - 1) else negsuc (2 ^ 63 - 1))
         (if c.version == 0 then pos (2 ^ 31 - 1) else pos (2 ^ 63 - 1)) ms };

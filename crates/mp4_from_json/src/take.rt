@@ -19,8 +19,14 @@ pub trait TakeShape: NamedShape {
     /// The type of the value that is taken, as the shape reads it.
     type Taken: Drop;
 
+    /// The type of the names as a clause sees them in a constant: that of `NamedShape`.
+    ghost Known: { Type 0 };
+
+    /// The names as a clause sees them in a constant.
+    ghost known: { Self.Names → Known };
+
     /// What is taken out of an object under these names, and the members that are left.
-    ghost taken: { Self.Seen → Context → Members → Taking (Self.Taken × Members) };
+    ghost taken: { Known → Context → Members → Taking (Self.Taken × Members) };
 
     /// Takes the fields of a value out of `object`, by their names.
     fn take(
@@ -30,7 +36,7 @@ pub trait TakeShape: NamedShape {
         object: &mut Object<'_>,
     ) -> Result<Self::Taken>
         ensures { TakesAs (λ v. (v, left object.new)) result
-            (taken (Self.seen names) context (left object.old)) };
+            (taken (known names) context (left object.old)) };
 }
 
 /// A box, or the fields of one, that is taken out of JSON.

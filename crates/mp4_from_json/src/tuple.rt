@@ -9,6 +9,10 @@ use std::alloc::Global;
 impl<A: TakeShape, B: TakeShape, C: TakeShape> TakeShape for (A, B, C) {
     type Taken = (A::Taken, (B::Taken, C::Taken));
 
+    ghost Known = { ⟦<(A, (B, C)) as TakeShape>⟧.Known };
+
+    ghost known = { ⟦<(A, (B, C)) as TakeShape>⟧.known };
+
     ghost taken = { ⟦<(A, (B, C)) as TakeShape>⟧.taken };
 
     fn take(
@@ -23,6 +27,10 @@ impl<A: TakeShape, B: TakeShape, C: TakeShape> TakeShape for (A, B, C) {
 
 impl<A: TakeShape, B: TakeShape, C: TakeShape, D: TakeShape> TakeShape for (A, B, C, D) {
     type Taken = (A::Taken, (B::Taken, (C::Taken, D::Taken)));
+
+    ghost Known = { ⟦<(A, (B, C, D)) as TakeShape>⟧.Known };
+
+    ghost known = { ⟦<(A, (B, C, D)) as TakeShape>⟧.known };
 
     ghost taken = { ⟦<(A, (B, C, D)) as TakeShape>⟧.taken };
 
@@ -45,6 +53,10 @@ where
     E: TakeShape,
 {
     type Taken = (A::Taken, (B::Taken, (C::Taken, (D::Taken, E::Taken))));
+
+    ghost Known = { ⟦<(A, (B, C, D, E)) as TakeShape>⟧.Known };
+
+    ghost known = { ⟦<(A, (B, C, D, E)) as TakeShape>⟧.known };
 
     ghost taken = { ⟦<(A, (B, C, D, E)) as TakeShape>⟧.taken };
 

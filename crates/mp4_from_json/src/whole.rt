@@ -21,7 +21,7 @@ pub(crate) fn take_all<S: TakeShape>(
     context: Context,
     object: &mut Object<'_>,
 ) -> Result<S::Taken>
-    ensures { TakesAs (λ v. v) result (all_of (S.TakeShape.taken (S.seen names) context) (left object.old)) }
+    ensures { TakesAs (λ v. v) result (all_of (S.TakeShape.taken (S.TakeShape.known names) context) (left object.old)) }
 {
     let taken = S::take(alloc, names, context, object)?;
     end_object(alloc, object)?;
@@ -36,7 +36,7 @@ pub fn take_members<S: TakeShape>(
     value: Value<'_>,
 ) -> Result<S::Taken>
     ensures { TakesAs (λ v. v) result
-        (object_taken (S.TakeShape.taken (S.seen names) context) (value_view value.entry)) }
+        (object_taken (S.TakeShape.taken (S.TakeShape.known names) context) (value_view value.entry)) }
 {
     let mut object = object_in(alloc, "", value)?;
     take_all::<S>(alloc, names, context, &mut object)
