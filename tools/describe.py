@@ -26,8 +26,6 @@ TOP = os.path.dirname(os.path.dirname(os.path.abspath(__file__)))
 SOURCES = "crates/mp4_extra_*/src/*.rt"
 COMMON = ("crates/mp4_shown/src/*.rt", SOURCES)
 CODES = "crates/mp4_frame/src/codes.rt"
-# The list of the boxes that are shown by their declarations.
-SHOWN = "crates/mp4_show_extra/src/fields.rt"
 DESCRIPTION = "docs/boxes.json"
 SCHEMA = "docs/boxes.schema.json"
 PAGE = "docs/FIELDS.md"
@@ -134,8 +132,10 @@ class Source:
         """Returns the value of a constant of this file, or of the one that has it."""
         if name in self.constants:
             return self.resolved(Expression(self.constants[name]).value())
+        module = next((of for of, names in re.findall(r"\buse crate::(\w+)::\{?([^;}]*)\}?;", self.text)
+                       if name in re.findall(r"\w+", names)), None)
         for other in sources():
-            if name in other.constants and other is not self:
+            if name in other.constants and other is not self and other.path.endswith(f"/{module}.rt" if module else ""):
                 return other.constant(name)
         raise Unknown(f"{self.path}: no constant {name}")
 
@@ -396,11 +396,11 @@ class Walk:
 
     def widths(self, struct, count, size):
         """Returns the widths of the numbers of an entry, in bits."""
-        impl = re.search(rf"impl EntryLayout<{count}, {size}> for {struct} \{{(.*?)(?= impl |$)", self.source.text)
-        if not impl:
-            raise Unknown(f"{self.source.path}: no EntryLayout<{count}, {size}> for {struct}")
-        name = re.search(r"fn widths\(\) -> \[u8; \w+\] \{ (\w+) \}", impl[1])[1]
-        return self.source.constant(name)
+        for source in (self.source, *sources()):
+            impl = re.search(rf"impl EntryLayout<{count}, {size}> for {struct} \{{(.*?)(?= impl |$)", source.text)
+            if impl:
+                return source.constant(re.search(r"fn widths\(\) -> \[u8; \w+\] \{ (\w+) \}", impl[1])[1])
+        raise Unknown(f"{self.source.path}: no EntryLayout<{count}, {size}> for {struct}")
 
     def entry(self, struct):
         """Returns the fields of an entry, or its kind."""
@@ -413,8 +413,10 @@ class Walk:
         return self.fields(self.source.types[shape], self.source.constant(names))
 
     def condition(self, shape):
-        name, ((argument, _),) = shape
-        return {"FromVersion": f"version >= {argument}", "IfFlags": f"flags & {int(argument, 0):#x}"}[name]
+        name, arguments = shape
+        argument = arguments[0][0] if arguments else ""
+        found = {"FromVersion": f"version >= {argument}", "VersionZero": "version is 0"}
+        return found.get(name) or f"flags & {int(argument, 0):#x}"
 
 
 # ---- Shapes of one box each: the fields that they show, which a function of the box hands to a sink
@@ -487,7 +489,18 @@ def descriptions(walk):
     return found
 
 
+def protection_system(_, names):
+    known = {"name": names[1], "kind": "text", "of": names[0], "optional": True}
+    return [{"name": names[0], "kind": "bytes", "length": 16}, known]
+
+
+def item_id(_, names):
+    return [{**field, "bits_by_version": [16, 32]} for field in number(names, 32)]
+
+
 OWN = {
+    "ItemId": item_id,
+    "ProtectionSystem": protection_system,
     "ChannelMapping": channel_mapping, "BlockData": flac_block_data, "Country": locale, "Language": locale,
     "TypedValue": typed_value, "SampleSizes": sample_sizes,
 }
@@ -499,9 +512,9 @@ BOXES = {"Colr": colours}
 
 
 def box_in(source):
-    """Returns the description of the box that a file declares, or `None` if its fields are not shown by declaration."""
+    """Returns the description of the box that a file declares, or `None` if it declares none."""
     declared = re.search(r"impl DeclaredBox for (\w+) ", source.text)
-    if not declared or f"ExtraBox::{declared[1]}Box(b) => put_declared(b, sink)" not in read(SHOWN):
+    if not declared:
         return None
     name = declared[1]
     code = codes()[re.search(r"const CODE: u32 = codes::(\w+);", source.text)[1]]
@@ -593,6 +606,29 @@ as they spell them. [boxes.json](boxes.json) has them for other programs, with t
 the boxes.
 
 A field is present in each box of its type unless the last column says when it is.
+
+## Boxes from JSON
+
+`read_extra` of the crate [`mp4_from_json`](../crates/mp4_from_json/CALLING.md) makes a box of its JSON again. The
+JSON is an object with the fields of the box:
+
+- The names may come in any order. A field that is missing, a name that the box doesn't have, and a name that comes
+  twice are refused.
+- A field without meaning for this version, these flags or this type must be absent.
+- These members are *derived*. They may be left out, and are refused if they contradict their field:
+    - the count of a list;
+    - the meaning of a number, whose name ends in `_name`;
+    - a text or a number beside its bytes, whose name ends in `_hex`.
+- Reserved bits may be left out if they have the standard's value. Bytes that are present only if there are some, and
+  empty lists of bytes, may be left out.
+- A byte that counts the bytes after it, such as `default_constant_IV_size`, may be left out. Another number than
+  theirs is kept, since files have such numbers.
+- A whole number is written without a point or an exponent. A fixed-point number may have both, up to 37 digits. It is
+  rounded to the nearest number that the field can have.
+- Bytes are texts of hexadecimal digits, in either case. Codes are texts of four characters, each of the number of its
+  byte.
+
+A refusal has the path of the member and a reason: `references[3].SAP_type does not fit the field`.
 """
 WIDTH = 120
 
@@ -635,7 +671,8 @@ def rows_of(fields, before=""):
 def page():
     found = [HEAD]
     for box in boxes():
-        found.append(f"## `{box['code']}`\n\n{box['title']} ({box['standard']}).\n\nIn Rattle it is a "
+        title = textwrap.fill(f"{box['title']} ({box['standard']}).", WIDTH)
+        found.append(f"## `{box['code']}`\n\n{title}\n\nIn Rattle it is a "
                      f"[`{box['type']}`](../{box['source']}).\n\nfield | kind | present\n---|---|---\n"
                      + "\n".join(rows_of(box["fields"])) + "\n")
     return "\n".join(found)

@@ -16,7 +16,7 @@ LETTERS = {"0": "\0", "n": "\n", "r": "\r", "t": "\t"}
 FAULTS = {"InvalidData": "Invalid", "BoxNotFound": "NotFound"}
 CODES = {
     "major_brand", "compatible_brands", "handler_type", "data_format", "grouping_type", "scheme_type", "aux_info_type",
-    "reference_type", "namespace",
+    "reference_type", "namespace", "item_type",
 }
 # Fields with the same names that are not codes: a number, and a string.
 NO_CODES = {("SidxEntry", "reference_type"), ("Stpp", "namespace")}
@@ -266,16 +266,16 @@ def records(inputs):
     return b"".join(at.to_bytes(8, "big") + len(buffer).to_bytes(8, "big") + buffer for at, buffer in inputs)
 
 
-def texts_of(out, count):
-    """Returns the texts that the program prints for `count` inputs: `TEXTS` for each."""
+def texts_of(out, count, each=TEXTS):
+    """Returns the texts that the program prints for `count` inputs: `each` of them for an input."""
     texts, at = [], 0
-    while at < len(out) and len(texts) < TEXTS * count:
+    while at < len(out) and len(texts) < each * count:
         end = at + 8 + int.from_bytes(out[at:at + 8], "big")
         texts.append(out[at + 8:end].decode("utf-8"))
         at = end
-    if len(texts) != TEXTS * count:
+    if len(texts) != each * count:
         raise ValueError(f"{len(texts)} texts for {count} inputs")
-    return [texts[at:at + TEXTS] for at in range(0, len(texts), TEXTS)]
+    return [texts[at:at + each] for at in range(0, len(texts), each)]
 
 
 def shown(program, inputs):
