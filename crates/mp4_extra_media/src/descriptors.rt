@@ -269,7 +269,8 @@ impl<K: DescriptorTag, S: Shape> Shape for Tagged<K, S> {
 
     ghost shape = { tagged_shape K.TAG (expandable_shape S.shape) };
 
-    ghost shape_laws = { tagged_laws K.TAG (expandable_shape S.shape) (expandable_laws S.shape S.shape_laws) K.is_small };
+    ghost shape_laws = { tagged_laws K.TAG (expandable_shape S.shape) (expandable_laws S.shape S.shape_laws)
+        K.is_small };
 
     #[inline]
     fn is_fixed() -> bool {
