@@ -506,15 +506,17 @@ OWN = {
 }
 PIECES = {"Streams": streams, "Accesses": accesses, "Descriptions": descriptions}
 BOXES = {"Colr": colours}
+# Boxes with descriptors inside of descriptors.
+UNDESCRIBED = {"Esds"}
 
 
 # ---- Boxes
 
 
 def box_in(source):
-    """Returns the description of the box that a file declares, or `None` if it declares none."""
+    """Returns the description of the box that a file declares, or `None` if it has none or isn't described."""
     declared = re.search(r"impl DeclaredBox for (\w+) ", source.text)
-    if not declared:
+    if not declared or declared[1] in UNDESCRIBED:
         return None
     name = declared[1]
     code = codes()[re.search(r"const CODE: u32 = codes::(\w+);", source.text)[1]]

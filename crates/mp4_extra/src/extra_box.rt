@@ -46,6 +46,7 @@ macro_rules! of_boxes {
                 DvvcBox DVVC,
                 ElngBox ELNG,
                 EndaBox ENDA,
+                EsdsBox ESDS,
                 FielBox FIEL,
                 FrmaBox FRMA,
                 GminBox GMIN,
@@ -165,6 +166,7 @@ pub enum ExtraBox {
     DvvcBox(DvvcBox),
     ElngBox(ElngBox),
     EndaBox(EndaBox),
+    EsdsBox(EsdsBox),
     FielBox(FielBox),
     FrmaBox(FrmaBox),
     GminBox(GminBox),
@@ -236,6 +238,7 @@ pub enum ExtraType {
     DvvcBox,
     ElngBox,
     EndaBox,
+    EsdsBox,
     FielBox,
     FrmaBox,
     GminBox,
@@ -356,6 +359,7 @@ impl Declares for ExtraBox {
       | types.DvvcBox ↦ valid_as ⟦<Dvvc as Described>⟧.declaration refl
       | types.ElngBox ↦ valid_as ⟦<Elng as Described>⟧.declaration refl
       | types.EndaBox ↦ valid_as ⟦<Enda as Described>⟧.declaration refl
+      | types.EsdsBox ↦ valid_as ⟦<Esds as Described>⟧.declaration refl
       | types.FielBox ↦ valid_as ⟦<Fiel as Described>⟧.declaration refl
       | types.FrmaBox ↦ valid_as ⟦<Frma as Described>⟧.declaration refl
       | types.GminBox ↦ valid_as ⟦<Gmin as Described>⟧.declaration refl
@@ -618,6 +622,14 @@ impl Holds<EndaBox> for ExtraBox {
 
     fn wrap(value: EndaBox) -> ExtraBox {
         ExtraBox::EndaBox(value)
+    }
+}
+
+impl Holds<EsdsBox> for ExtraBox {
+    ghost wrapped = { boxes.EsdsBox };
+
+    fn wrap(value: EsdsBox) -> ExtraBox {
+        ExtraBox::EsdsBox(value)
     }
 }
 

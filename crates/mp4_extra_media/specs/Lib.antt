@@ -2,3 +2,11 @@ pub mod ShownColour
 pub mod ShownMapping
 pub mod ShownBlocks
 pub mod ShownStreams
+pub mod Expandable
+pub mod ExpandableLaws
+pub mod Tagged
+pub mod TaggedLaws
+pub mod Dependent
+pub mod DependentLaws
+pub mod AudioConfig
+pub mod ShownDescriptors

@@ -3,6 +3,7 @@
 #![tactic(auto)]
 
 pub mod alac;
+pub mod audio_config;
 pub mod auxc;
 pub mod av1c;
 pub mod btrt;
@@ -13,11 +14,14 @@ pub mod clli;
 pub mod colr;
 pub mod dac3;
 pub mod dec3;
+pub mod dependent;
+pub mod descriptors;
 pub mod dfla;
 pub mod dops;
 pub mod dvcc;
 pub mod dvvc;
 pub mod enda;
+pub mod esds;
 pub mod fiel;
 pub mod gmin;
 pub mod hvcc;
@@ -25,6 +29,7 @@ pub mod imir;
 pub mod irot;
 pub mod ispe;
 pub mod mdcv;
+pub mod nested;
 pub mod pasp;
 pub mod pixi;
 pub mod srat;

@@ -112,6 +112,11 @@ returns-in-EndaBox-clause-answer c =
     of_type c.args.of types.EndaBox _ c.args.reader.now.bytes.now (c.args.reader.now.position - 8) c.args.size
     c.in-EndaBox.is c.read_as-in-EndaBox.ensures.answer
 
+pub returns-in-EsdsBox-clause-answer : goal.returns-in-EsdsBox-clause-answer
+returns-in-EsdsBox-clause-answer c =
+    of_type c.args.of types.EsdsBox _ c.args.reader.now.bytes.now (c.args.reader.now.position - 8) c.args.size
+    c.in-EsdsBox.is c.read_as-in-EsdsBox.ensures.answer
+
 pub returns-in-FielBox-clause-answer : goal.returns-in-FielBox-clause-answer
 returns-in-FielBox-clause-answer c =
     of_type c.args.of types.FielBox _ c.args.reader.now.bytes.now (c.args.reader.now.position - 8) c.args.size
