@@ -1,8 +1,10 @@
 //! The fields of sample entries of video and subtitles, and of what configures their decoders.
 
-ghost use Rattle.mp4_show.specs.declared.fields.entries.TheConstants.{AVC1, AVCC, COLOR, HEV1, HVCC, TX3G, VP09, VPCC};
+ghost use Rattle.mp4_show.specs.declared.fields.entries.TheConstants.{AVC1, AVCC, COLOR, HEV1, HVCC, TX3G, VP09, VP09_REST};
+ghost use Rattle.mp4_show.specs.declared.fields.entries.TheConstants.{VPCC, VPCC_REST};
+ghost use Rattle.std.specs.Prelude.{◌++◌};
 ghost use Rattle.mp4_shown.specs.Lists.{bytes_item};
-ghost use Rattle.mp4_shown.specs.Members.{whole_bytes_item};
+ghost use Rattle.mp4_shown.specs.Members.{members_append, whole_bytes_item};
 
 use crate::box_fields::BoxFields;
 use crate::entries_in::{BoxEntry, EntriesIn};
@@ -102,17 +104,24 @@ impl BoxFields for HvcCBox {
     }
 }
 
-/// How VP8 and VP9 video are decoded (VP Codec ISO Media File Format Binding, 2.2).
-type VpccShown = Full<256, (U8, U8, U8, U8, (FlagBit, U8, U8, U8, Last<U16>))>;
+/// How VP8 and VP9 video are decoded (VP Codec ISO Media File Format Binding, 2.2), up to the subsampling.
+type VpccFront = Full<256, (U8, U8, U8, Last<U8>)>;
 
 /// The names of its fields.
-const VPCC: <VpccShown as NamedShape>::Names = names_of!(
+const VPCC: <VpccFront as NamedShape>::Names = names_of!(
     VERSION,
     FLAGS,
     number!("profile"),
     number!("level"),
     number!("bit_depth"),
-    number!("chroma_subsampling"),
+    number!("chroma_subsampling")
+);
+
+/// The fields after the subsampling.
+type VpccRest = (FlagBit, U8, U8, U8, Last<U16>);
+
+/// The names of its fields.
+const VPCC_REST: <VpccRest as NamedShape>::Names = names_of!(
     number!("video_full_range_flag"),
     number!("color_primaries"),
     number!("transfer_characteristics"),
@@ -121,75 +130,61 @@ const VPCC: <VpccShown as NamedShape>::Names = names_of!(
 );
 
 impl BoxFields for VpccBox {
-    ghost shown = { λ view b. ⟦<VpccShown as NamedShape>⟧.shown VPCC view (
-      b.version,
-      (
-        b.flags,
-        (
-          b.profile,
+    ghost shown = { λ view b. ⟦<VpccFront as NamedShape>⟧.shown VPCC view
+        (b.version, (b.flags, (b.profile, (b.level, (b.bit_depth, (b.chroma_subsampling, tt))))))
+        ++ ⟦<VpccRest as NamedShape>⟧.shown VPCC_REST view (
+          b.video_full_range_flag,
           (
-            b.level,
+            b.color_primaries,
             (
-              b.bit_depth,
+              b.transfer_characteristics,
               (
-                b.chroma_subsampling,
-                (
-                  b.video_full_range_flag,
-                  (
-                    b.color_primaries,
-                    (
-                      b.transfer_characteristics,
-                      (
-                        b.matrix_coefficients,
-                        (b.codec_initialization_data_size, tt),
-                      ),
-                    ),
-                  ),
-                ),
+                b.matrix_coefficients,
+                (b.codec_initialization_data_size, tt),
               ),
             ),
           ),
-        ),
-      ),
-    ) };
+        ) };
 
-    ghost whole = { λ view b. ⟦<VpccShown as NamedShape>⟧.whole VPCC view (
-      b.version,
-      (
-        b.flags,
-        (
-          b.profile,
+    ghost whole = { λ view b. members_append (⟦<VpccFront as NamedShape>⟧.shown VPCC view
+        (b.version, (b.flags, (b.profile, (b.level, (b.bit_depth, (b.chroma_subsampling, tt)))))))
+        (⟦<VpccRest as NamedShape>⟧.shown VPCC_REST view (
+          b.video_full_range_flag,
           (
-            b.level,
+            b.color_primaries,
             (
-              b.bit_depth,
+              b.transfer_characteristics,
               (
-                b.chroma_subsampling,
-                (
-                  b.video_full_range_flag,
-                  (
-                    b.color_primaries,
-                    (
-                      b.transfer_characteristics,
-                      (
-                        b.matrix_coefficients,
-                        (b.codec_initialization_data_size, tt),
-                      ),
-                    ),
-                  ),
-                ),
+                b.matrix_coefficients,
+                (b.codec_initialization_data_size, tt),
               ),
             ),
           ),
-        ),
-      ),
-    ) };
+        ))
+        (⟦<VpccFront as NamedShape>⟧.whole VPCC view
+        (b.version, (b.flags, (b.profile, (b.level, (b.bit_depth, (b.chroma_subsampling, tt)))))))
+        (⟦<VpccRest as NamedShape>⟧.whole VPCC_REST view (
+          b.video_full_range_flag,
+          (
+            b.color_primaries,
+            (
+              b.transfer_characteristics,
+              (
+                b.matrix_coefficients,
+                (b.codec_initialization_data_size, tt),
+              ),
+            ),
+          ),
+        )) };
 
     fn show<K: FieldSink>(&self, view: View, sink: &mut K) -> Result<()> {
-        let parts = parts_of!(self => version, flags, profile, level, bit_depth, chroma_subsampling,
-            video_full_range_flag, color_primaries, transfer_characteristics, matrix_coefficients,
-            codec_initialization_data_size);
-        show_shape::<VpccShown, _, K>(VPCC, view, parts, sink)
+        let front =
+            parts_of!(self => version, flags, profile, level, bit_depth, chroma_subsampling);
+        let rest =
+            parts_of!(self => video_full_range_flag, color_primaries, transfer_characteristics,
+            matrix_coefficients, codec_initialization_data_size);
+        show_shape::<VpccFront, _, K>(VPCC, view, front, sink)?;
+        show_shape::<VpccRest, _, K>(VPCC_REST, view, rest, sink)
     }
 }
 
@@ -335,33 +330,31 @@ impl BoxFields for Hev1Box {
     }
 }
 
-/// A sample entry of VP9 video (VP Codec ISO Media File Format Binding, 2.1).
-type Vp09Shown = Full<
-    256,
-    (
-        U16,
-        U16,
-        Array<16>,
-        U16,
-        (
-            U16,
-            Resolution,
-            Resolution,
-            Array<4>,
-            (U16, Array<32>, U16, U16, Last<Group<FieldsOf<VpccBox>>>),
-        ),
-    ),
->;
+/// A sample entry of VP9 video (VP Codec ISO Media File Format Binding, 2.1), up to the height.
+type Vp09Front = Full<256, (U16, U16, Array<16>, U16, Last<U16>)>;
 
 /// The names of its fields.
-const VP09: <Vp09Shown as NamedShape>::Names = names_of!(
+const VP09: <Vp09Front as NamedShape>::Names = names_of!(
     VERSION,
     FLAGS,
     number!("start_code"),
     number!("data_reference_index"),
     run!("reserved0", Bytes),
     number!("width"),
-    number!("height"),
+    number!("height")
+);
+
+/// The fields after the height.
+type Vp09Rest = (
+    Resolution,
+    Resolution,
+    Array<4>,
+    U16,
+    (Array<32>, U16, U16, Last<Group<FieldsOf<VpccBox>>>),
+);
+
+/// The names of its fields.
+const VP09_REST: <Vp09Rest as NamedShape>::Names = names_of!(
     "horizresolution",
     "vertresolution",
     run!("reserved1", Bytes),
@@ -373,94 +366,80 @@ const VP09: <Vp09Shown as NamedShape>::Names = names_of!(
 );
 
 impl BoxFields for Vp09Box {
-    ghost shown = { λ view b. ⟦<Vp09Shown as NamedShape>⟧.shown VP09 view (
-      b.version,
-      (
-        b.flags,
-        (
-          b.start_code,
+    ghost shown = { λ view b. ⟦<Vp09Front as NamedShape>⟧.shown VP09 view
+        (b.version, (b.flags, (b.start_code, (b.data_reference_index, (b.reserved0, (b.width, (b.height, tt)))))))
+        ++ ⟦<Vp09Rest as NamedShape>⟧.shown VP09_REST view (
+          b.horizresolution,
           (
-            b.data_reference_index,
+            b.vertresolution,
             (
-              b.reserved0,
+              b.reserved1,
               (
-                b.width,
+                b.frame_count,
                 (
-                  b.height,
+                  b.compressorname,
                   (
-                    b.horizresolution,
-                    (
-                      b.vertresolution,
-                      (
-                        b.reserved1,
-                        (
-                          b.frame_count,
-                          (
-                            b.compressorname,
-                            (
-                              b.depth,
-                              (b.end_code, (b.vpcc, tt)),
-                            ),
-                          ),
-                        ),
-                      ),
-                    ),
+                    b.depth,
+                    (b.end_code, (b.vpcc, tt)),
                   ),
                 ),
               ),
             ),
           ),
-        ),
-      ),
-    ) };
+        ) };
 
-    ghost whole = { λ view b. ⟦<Vp09Shown as NamedShape>⟧.whole VP09 view (
-      b.version,
-      (
-        b.flags,
-        (
-          b.start_code,
+    ghost whole = { λ view b. members_append (⟦<Vp09Front as NamedShape>⟧.shown VP09 view
+        (b.version, (b.flags, (b.start_code, (b.data_reference_index, (b.reserved0, (b.width, (b.height, tt))))))))
+        (⟦<Vp09Rest as NamedShape>⟧.shown VP09_REST view (
+          b.horizresolution,
           (
-            b.data_reference_index,
+            b.vertresolution,
             (
-              b.reserved0,
+              b.reserved1,
               (
-                b.width,
+                b.frame_count,
                 (
-                  b.height,
+                  b.compressorname,
                   (
-                    b.horizresolution,
-                    (
-                      b.vertresolution,
-                      (
-                        b.reserved1,
-                        (
-                          b.frame_count,
-                          (
-                            b.compressorname,
-                            (
-                              b.depth,
-                              (b.end_code, (b.vpcc, tt)),
-                            ),
-                          ),
-                        ),
-                      ),
-                    ),
+                    b.depth,
+                    (b.end_code, (b.vpcc, tt)),
                   ),
                 ),
               ),
             ),
           ),
-        ),
-      ),
-    ) };
+        ))
+        (⟦<Vp09Front as NamedShape>⟧.whole VP09 view
+        (b.version, (b.flags, (b.start_code, (b.data_reference_index, (b.reserved0, (b.width, (b.height, tt))))))))
+        (⟦<Vp09Rest as NamedShape>⟧.whole VP09_REST view (
+          b.horizresolution,
+          (
+            b.vertresolution,
+            (
+              b.reserved1,
+              (
+                b.frame_count,
+                (
+                  b.compressorname,
+                  (
+                    b.depth,
+                    (b.end_code, (b.vpcc, tt)),
+                  ),
+                ),
+              ),
+            ),
+          ),
+        )) };
 
     fn show<K: FieldSink>(&self, view: View, sink: &mut K) -> Result<()> {
         let vpcc = &self.vpcc;
-        let parts =
-            parts_of!(self => version, flags, start_code, data_reference_index, reserved0, width, height,
-            horizresolution, vertresolution, reserved1, frame_count, compressorname, depth, end_code, = vpcc);
-        show_shape::<Vp09Shown, _, K>(VP09, view, parts, sink)
+        let front =
+            parts_of!(self => version, flags, start_code, data_reference_index, reserved0, width, height);
+        let rest =
+            parts_of!(self => horizresolution, vertresolution, reserved1, frame_count, compressorname,
+            depth, end_code, = vpcc);
+        show_shape::<Vp09Front, _, K>(VP09, view, front, sink)?;
+        show_shape::<Vp09Rest, _, K>(VP09_REST, view, rest, sink)
     }
 }
 

@@ -56,8 +56,8 @@ fn put_integer<K: FieldSink>(number: Option<i64>, bytes: &[u8], sink: &mut K) ->
     ensures { OnOk result (Hands K.trace K.after sink.old (shown_integer number bytes.now) sink.new) }
 {
     match number {
-        Some(number) => sink.field("number", Value::Signed(number)),
         None => sink.field("data_bytes", Value::Bytes(bytes)),
+        Some(number) => sink.field("number", Value::Signed(number)),
     }
 }
 

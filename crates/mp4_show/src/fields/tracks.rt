@@ -1,11 +1,11 @@
 //! The fields of the boxes of a track: its header, its edits, its media's header and handler.
 
-ghost use Rattle.std.specs.Prelude.{◌≡◌};
+ghost use Rattle.std.specs.Prelude.{◌≡◌, ◌++◌};
 ghost use Rattle.std.specs.Int.{w16, cast_signed};
 ghost use Rattle.mp4_show.specs.Edits.{signed_time};
-ghost use Rattle.mp4_show.specs.declared.fields.tracks.TheConstants.{EDIT, ELST, HDLR, MDHD, TKHD};
+ghost use Rattle.mp4_show.specs.declared.fields.tracks.TheConstants.{EDIT, ELST, HDLR, MDHD, TKHD, TKHD_REST};
 ghost use Rattle.mp4_shown.specs.Lists.{entry_of};
-ghost use Rattle.mp4_shown.specs.Members.{whole_entry};
+ghost use Rattle.mp4_shown.specs.Members.{members_append, whole_entry};
 
 use crate::box_fields::BoxFields;
 use crate::entries_in::{BoxEntry, EntriesIn};
@@ -18,26 +18,24 @@ use mp4_shown::{
 };
 use mp4_stream::{ElstBox, ElstEntry, HdlrBox, MdhdBox, TkhdBox};
 
-/// Track header (ISO/IEC 14496-12, 8.3.2). The standard has a sign in `layer`, `alternate_group` and `volume`.
-type TkhdShown = Full<
-    256,
-    (
-        U64,
-        U64,
-        U32,
-        U64,
-        (I16, I16, I16, Transformation, (U32, Last<U32>)),
-    ),
->;
+/// The front of a track header (ISO/IEC 14496-12, 8.3.2).
+type TkhdFront = Full<256, (U64, U64, U32, Last<U64>)>;
 
 /// The names of its fields.
-const TKHD: <TkhdShown as NamedShape>::Names = names_of!(
+const TKHD: <TkhdFront as NamedShape>::Names = names_of!(
     VERSION,
     number!("flags", Flags(6), TRACK),
     number!("creation_time", Date),
     number!("modification_time", Date),
     number!("track_id"),
-    number!("duration"),
+    number!("duration")
+);
+
+/// The fields of a track header after its duration. The standard has a sign in the first three.
+type TkhdRest = (I16, I16, I16, Transformation, (U32, Last<U32>));
+
+/// The names of its fields.
+const TKHD_REST: <TkhdRest as NamedShape>::Names = names_of!(
     number!("layer"),
     number!("alternate_group"),
     number!("volume", Fixed(8)),
@@ -47,73 +45,56 @@ const TKHD: <TkhdShown as NamedShape>::Names = names_of!(
 );
 
 impl BoxFields for TkhdBox {
-    ghost shown = { λ view b. ⟦<TkhdShown as NamedShape>⟧.shown TKHD view (
-      b.version,
-      (
-        b.flags,
-        (
-          b.creation_time,
+    ghost shown = { λ view b. ⟦<TkhdFront as NamedShape>⟧.shown TKHD view
+        (b.version, (b.flags, (b.creation_time, (b.modification_time, (b.track_id, (b.duration, tt))))))
+        ++ ⟦<TkhdRest as NamedShape>⟧.shown TKHD_REST view (
+          cast_signed w16 b.layer,
           (
-            b.modification_time,
+            cast_signed w16 b.alternate_group,
             (
-              b.track_id,
-              (
-                b.duration,
-                (
-                  cast_signed w16 b.layer,
-                  (
-                    cast_signed w16 b.alternate_group,
-                    (
-                      cast_signed w16 b.volume,
-                      (b.matrix, (b.width, (b.height, tt))),
-                    ),
-                  ),
-                ),
-              ),
+              cast_signed w16 b.volume,
+              (b.matrix, (b.width, (b.height, tt))),
             ),
           ),
-        ),
-      ),
-    ) };
+        ) };
 
-    ghost whole = { λ view b. ⟦<TkhdShown as NamedShape>⟧.whole TKHD view (
-      b.version,
-      (
-        b.flags,
-        (
-          b.creation_time,
+    ghost whole = { λ view b. members_append (⟦<TkhdFront as NamedShape>⟧.shown TKHD view
+        (b.version, (b.flags, (b.creation_time, (b.modification_time, (b.track_id, (b.duration, tt)))))))
+        (⟦<TkhdRest as NamedShape>⟧.shown TKHD_REST view (
+          cast_signed w16 b.layer,
           (
-            b.modification_time,
+            cast_signed w16 b.alternate_group,
             (
-              b.track_id,
-              (
-                b.duration,
-                (
-                  cast_signed w16 b.layer,
-                  (
-                    cast_signed w16 b.alternate_group,
-                    (
-                      cast_signed w16 b.volume,
-                      (b.matrix, (b.width, (b.height, tt))),
-                    ),
-                  ),
-                ),
-              ),
+              cast_signed w16 b.volume,
+              (b.matrix, (b.width, (b.height, tt))),
             ),
           ),
-        ),
-      ),
-    ) };
+        ))
+        (⟦<TkhdFront as NamedShape>⟧.whole TKHD view
+        (b.version, (b.flags, (b.creation_time, (b.modification_time, (b.track_id, (b.duration, tt)))))))
+        (⟦<TkhdRest as NamedShape>⟧.whole TKHD_REST view (
+          cast_signed w16 b.layer,
+          (
+            cast_signed w16 b.alternate_group,
+            (
+              cast_signed w16 b.volume,
+              (b.matrix, (b.width, (b.height, tt))),
+            ),
+          ),
+        )) };
 
     fn show<K: FieldSink>(&self, view: View, sink: &mut K) -> Result<()> {
         let layer = self.layer.cast_signed();
         let alternate_group = self.alternate_group.cast_signed();
         let volume = self.volume.raw_value().cast_signed();
         let matrix = &self.matrix;
-        let parts =
-            parts_of!(self => version, flags, creation_time, modification_time, track_id, duration,
-            = layer, = alternate_group, = volume, = matrix, width.raw_value(), height.raw_value());
-        show_shape::<TkhdShown, _, K>(TKHD, view, parts, sink)
+        let front =
+            parts_of!(self => version, flags, creation_time, modification_time, track_id, duration);
+        let rest =
+            parts_of!(self => = layer, = alternate_group, = volume, = matrix, width.raw_value(),
+            height.raw_value());
+        show_shape::<TkhdFront, _, K>(TKHD, view, front, sink)?;
+        show_shape::<TkhdRest, _, K>(TKHD_REST, view, rest, sink)
     }
 }
 
