@@ -7,6 +7,11 @@ use Rattle.mp4_faststart.specs.declared.movement.Move.{Move}
 abbrev pub moved : Move → ℕ → ℕ
 moved c o = if nat_le c.insert o && nat_lt o c.begin then o + (c.end - c.begin) else o
 
+-- the offset after the move: one into the movie box keeps its distance from the beginning of the box, and any other
+-- leads to the same byte
+abbrev pub offset_after : Move → ℕ → ℕ
+offset_after c o = if nat_le c.begin o && nat_lt o c.end then o - c.begin + c.insert else moved c o
+
 -- the file B after the move, in which m stands for the movie box
 abbrev pub moved_file : Move → List ℕ → List ℕ → List ℕ
 moved_file c B m = take c.insert B ++ m ++ take (c.begin - c.insert) (drop c.insert B) ++ drop c.end B

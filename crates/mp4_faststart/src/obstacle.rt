@@ -2,6 +2,7 @@
 
 ghost use Rattle.std.specs.Prelude.{◌≡◌};
 
+use crate::movement::Move;
 use mp4_frame::{FourCC, codes, u32_at};
 use mp4_walk::{BoxWalk, Source, TreeBox};
 use std::alloc::Global;
@@ -36,6 +37,10 @@ pub enum Obstacle {
 const BASE_DATA_OFFSET: u32 = 0x00_0001;
 /// The flags of an entry of `dref` whose media data are in the same file (8.7.2).
 const SELF_CONTAINED: u32 = 0x00_0001;
+/// The code of a reference to a file by a name (8.7.2).
+const URN: u32 = 0x7572_6e20;
+/// The code of a reference to a file by an alias, which QuickTime has.
+const ALIS: u32 = 0x616c_6973;
 
 /// Returns the flags of `found` (4.2), or 0 if it has no room for them.
 fn flags_of<S: Source>(alloc: Global, tree: &mut BoxWalk<S>, found: &TreeBox) -> io::Result<u32>
@@ -53,21 +58,28 @@ fn flags_of<S: Source>(alloc: Global, tree: &mut BoxWalk<S>, found: &TreeBox) ->
 }
 
 /// Returns whether boxes with `code` have offsets that are not shifted: they count from the front of the file, or are
-/// in a compressed movie, or lead from before the `moov` to what is after it.
-fn has_offsets(code: u32, is_before_movie: bool) -> bool {
+/// in a compressed movie, or lead from before the `moov` to what is after it. Only in the `moov` is a `saio` shifted.
+fn has_offsets(code: u32, is_before_movie: bool, is_in_movie: bool) -> bool {
     match code {
-        codes::CMOV | codes::ILOC | codes::SAIO | codes::TFRA => true,
+        codes::CMOV | codes::ILOC | codes::TFRA => true,
+        codes::SAIO => !is_in_movie,
         codes::SIDX | codes::MOOF => is_before_movie,
         _ => false,
     }
 }
 
-/// Returns the obstacle that `found` is, if it is one.
+/// Returns whether an entry of `dref` with `code` says by its flags whether the media data are in the same file. The
+/// chunk offsets of another entry, such as `imdt`, may count from elsewhere.
+fn is_file_reference(code: u32) -> bool {
+    matches!(code, codes::URL | URN | ALIS)
+}
+
+/// Returns the obstacle to the move `shift` that `found` is, if it is one.
 pub fn obstacle_at<S: Source>(
     alloc: Global,
     tree: &mut BoxWalk<S>,
     found: &TreeBox,
-    is_before_movie: bool,
+    shift: Move,
 ) -> io::Result<Option<Obstacle>>
     ensures { tree.new ≡ tree.old }
 {
@@ -78,13 +90,18 @@ pub fn obstacle_at<S: Source>(
     let Some(code) = found.code else {
         return Ok(None);
     };
-    if has_offsets(code.into(), is_before_movie) {
+    let is_before_movie = position < shift.begin;
+    let is_in_movie = shift.begin <= position && position < shift.end;
+    if has_offsets(code.into(), is_before_movie, is_in_movie) {
         return Ok(Some(Obstacle::Offsets { code, position }));
     }
     if code == FourCC::from(codes::TFHD) && flags_of(alloc, tree, found)? & BASE_DATA_OFFSET != 0 {
         return Ok(Some(Obstacle::Offsets { code, position }));
     }
-    if found.context.parent == codes::DREF && flags_of(alloc, tree, found)? & SELF_CONTAINED == 0 {
+    if found.context.parent == codes::DREF
+        && (!is_file_reference(code.into())
+            || flags_of(alloc, tree, found)? & SELF_CONTAINED == 0)
+    {
         return Ok(Some(Obstacle::OtherFile { code, position }));
     }
     Ok(None)
