@@ -1,5 +1,6 @@
 -- The plan of a file whose movie box is moved.
-use Rattle.std.proofs.Common.{◌≡◌, ℕ, ◌-◌, List, [], ◌++◌, take, drop, length, None, Some, ap, subst, ◌∙◌, arith}
+use Rattle.std.proofs.Common.{◌≡◌, ℕ, ◌-◌, List, [], ◌++◌, take, drop, length, None, Some, sym, ap, subst, ◌∙◌}
+use Rattle.std.proofs.Common.{arith}
 use Rattle.std.proofs.lemmas.List.{take_rest, take_all}
 use Rattle.std.specs.Prelude.{IfSome}
 use Rattle.std.specs.declared.option.Option.{Option}
@@ -50,11 +51,14 @@ parts c n m p q r s t none one two three four B long =
     four B ∙ ap (λ (xs : List ℕ). xs ++ take (n - c.end) (drop c.end B)) g
     ∙ ap (λ (xs : List ℕ). front ++ m ++ between ++ xs) last
 
--- the plan of a file whose movie box was read
-pub planned : (c : Move) (n : ℕ) (movie m : List ℕ) (ps : List Piece) (r : Option (List ℕ))
+-- the plans of a file whose movie box was read
+pub planned : (c : Move) (n : ℕ) (movie m : List ℕ) (ps qs : List Piece) (r : Option (List ℕ))
     → IfSome r (λ B. movie ≡ movie_of c B) → IsMovieAfter c movie m
     → ((B : List ℕ) → n ≡ length B → spelled B ps ≡ moved_file c B m)
-    → IfSome r (λ B. n ≡ length B → PlansMove B c ps)
-planned c n movie m ps None is after file = tt
-planned c n movie m ps (Some B) is after file = λ long.
-    (m, subst (λ (xs : List ℕ). IsMovieAfter c xs m) is after, file B long)
+    → ((B : List ℕ) → n ≡ length B → spelled B qs ≡ moved_file c B m)
+    → IfSome r (λ B. n ≡ length B → PlansMove B c ps × (spelled B qs ≡ spelled B ps))
+planned c n movie m ps qs None is after file twin = tt
+planned c n movie m ps qs (Some B) is after file twin = λ long. (
+  (m, subst (λ (xs : List ℕ). IsMovieAfter c xs m) is after, file B long),
+  twin B long ∙ sym (file B long),
+)

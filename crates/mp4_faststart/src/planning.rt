@@ -95,18 +95,32 @@ fn moved_movie(alloc: Global, movie: &[u8], shift: Move) -> Result<Vec<u8>, Stop
     }
 }
 
-/// Plans a source of length `size` with its movie box moved.
+/// Plans a source of length `size` with `movie` as its movie box at the new place, twice.
+fn plan_twice(alloc: Global, size: u64, shift: Move, movie: Vec<u8>) -> Result<(Plan, Plan), Stop>
+    ensures first { IfOk result
+        (λ plans. (B : List ℕ) → size ≡ length B → spelled B plans.0 ≡ moved_file shift B movie.items) }
+    ensures second { IfOk result
+        (λ plans. (B : List ℕ) → size ≡ length B → spelled B plans.1 ≡ moved_file shift B movie.items) }
+{
+    let copy = Vec::from_slice(alloc, movie.as_slice())?;
+    let second = plan_parts(alloc, size, shift, copy)?;
+    let first = plan_parts(alloc, size, shift, movie)?;
+    Ok((first, second))
+}
+
+/// Plans a source of length `size` with its movie box moved. Returns two plans of the same file, since one is kept in
+/// its source.
 pub fn plan_move<S: Source>(
     alloc: Global,
     source: &mut S,
     size: u64,
     shift: Move,
-) -> Result<Plan, Stop>
-    ensures plan { IfOk result
-        (λ plan. IfSome (S.all source.old) (λ B. size ≡ length B → PlansMove B shift plan)) }
+) -> Result<(Plan, Plan), Stop>
+    ensures plan { IfOk result (λ plans. IfSome (S.all source.old)
+        (λ B. size ≡ length B → PlansMove B shift plans.0 × (spelled B plans.1 ≡ spelled B plans.0))) }
     ensures keeps { S.all source.new ≡ S.all source.old }
 {
     let movie = movie_of(alloc, source, shift)?;
     let made = moved_movie(alloc, movie.as_slice(), shift)?;
-    plan_parts(alloc, size, shift, made)
+    plan_twice(alloc, size, shift, made)
 }

@@ -52,11 +52,11 @@ fn write_copy<S: Source, W: Write>(
 }
 
 /// Writes what `plan` spells out over `source`, if it keeps the media. `new` is a source of that file.
-fn write_kept<'a, S: Source, T: Source, W: Write>(
+fn write_kept<S: Source, T: Source, W: Write>(
     alloc: Global,
     source: S,
-    new: PieceSource<'a, T>,
-    plan: &'a Plan,
+    new: PieceSource<T>,
+    plan: &Plan,
     output: &mut Output<W>,
 ) -> Result<(), Stop>
     ensures { IfSome (S.all source) (λ B. bytes_by new ≡ Some (spelled B plan.now)
@@ -70,9 +70,9 @@ fn write_kept<'a, S: Source, T: Source, W: Write>(
 }
 
 /// Returns a source of what `plan` spells out over the file `again`.
-fn new_file<'a, T: Source>(again: T, plan: &'a Plan) -> Result<PieceSource<'a, T>, Stop>
+fn new_file<T: Source>(again: T, plan: Plan) -> Result<PieceSource<T>, Stop>
     ensures old { IfOk result (λ s. s.old ≡ T.all again) }
-    ensures pieces { IfOk result (λ s. s.pieces ≡ plan.now) }
+    ensures pieces { IfOk result (λ s. s.pieces ≡ plan) }
 {
     match PieceSource::new(again, plan) {
         Ok(Some(new)) => Ok(new),
@@ -81,18 +81,20 @@ fn new_file<'a, T: Source>(again: T, plan: &'a Plan) -> Result<PieceSource<'a, T
     }
 }
 
-/// Writes what `plan` spells out over `source`, if it keeps the media. `again` is a second source of the same file.
+/// Writes what `plan` spells out over `source`, if it keeps the media. `again` is a second source of the same file, and
+/// `twin` a second plan of the same new file.
 fn write_by<S: Source, T: Source, W: Write>(
     alloc: Global,
     source: S,
     again: T,
     plan: &Plan,
+    twin: Plan,
     output: &mut Output<W>,
 ) -> Result<(), Stop>
-    ensures { IfSome (S.all source) (λ B. T.all again ≡ Some B
+    ensures { IfSome (S.all source) (λ B. T.all again ≡ Some B → spelled B twin ≡ spelled B plan.now
         → WrotePlan B plan.now (W.contents output.old.inner) (W.contents output.new.inner) result) }
 {
-    match new_file(again, plan) {
+    match new_file(again, twin) {
         Ok(new) => write_kept(alloc, source, new, plan, output),
         Err(stop) => Err(stop),
     }
@@ -113,7 +115,7 @@ fn write_moved<S: Source, T: Source, W: Write>(
 {
     let mut source = source;
     match plan_move(alloc, &mut source, size, shift) {
-        Ok(plan) => write_by(alloc, source, again, &plan, output),
+        Ok((plan, twin)) => write_by(alloc, source, again, &plan, twin, output),
         Err(stop) => Err(stop),
     }
 }
@@ -148,7 +150,7 @@ fn write_as<S: Source, T: Source, W: Write>(
 /// file has no `mdat`, writes the file as it is and returns `None`. `again` is a second source of the same file, since
 /// the old and the new file are compared. Every track keeps its samples, all bytes outside the `moov` are the same, and
 /// so are those of the `moov` except for its offsets. After a refusal nothing is written, and after a failure a
-/// beginning of the file. Needs the memory of two `moov`s, of the boxes of both files, of the sample tables of one
+/// beginning of the file. Needs the memory of three `moov`s, of the boxes of both files, of the sample tables of one
 /// track in both, and a block of 1 MiB.
 pub fn write_fast_start<S: Source, T: Source, W: Write>(
     alloc: Global,
