@@ -11,7 +11,7 @@ use Rattle.mp4_pieces.specs.declared.holes.Hole.{Hole}
 use Rattle.mp4_walk.specs.Paths.{is_code}
 use Rattle.mp4_walk.specs.Source.{piece}
 use Rattle.mp4_walk.specs.declared.tree_box.TreeBox.{TreeBox}
-use Rattle.mp4_faststart.specs.Moved.{offset_after}
+use Rattle.mp4_faststart.specs.Moved.{after}
 use Rattle.mp4_faststart.specs.declared.movement.Move.{Move}
 use Rattle.mp4_faststart.specs.declared.offsets.OffsetTable.{OffsetTable}
 
@@ -63,17 +63,18 @@ listed (Some t) = t ∷ []
 abbrev pub tables_of : List ℕ → List TreeBox → List OffsetTable
 tables_of B boxes = flat_map (λ x. listed (table_in B x)) boxes
 
--- each of these offsets of w bytes is as after the move
-abbrev pub AreMoved : ℕ → Move → List ℕ → List ℕ → Type 0
-AreMoved w c xs ys = (i : ℕ) → w * i + w ≤ length xs → number ys (w * i) w ≡ offset_after c (number xs (w * i) w)
+-- each of the offsets ys, of w bytes, is what `to` makes of that in xs
+abbrev pub AreMoved : ℕ → (ℕ → Option ℕ) → List ℕ → List ℕ → Type 0
+AreMoved w to xs ys = (i : ℕ) → w * i + w ≤ length xs → to (number xs (w * i) w) ≡ Some (number ys (w * i) w)
 
-abbrev pub AreMovedBy : Bool → Move → List ℕ → List ℕ → Type 0
-AreMovedBy true c xs ys = AreMoved 8 c xs ys
-AreMovedBy false c xs ys = AreMoved 4 c xs ys
+abbrev pub AreMovedBy : Bool → (ℕ → Option ℕ) → List ℕ → List ℕ → Type 0
+AreMovedBy true to xs ys = AreMoved 8 to xs ys
+AreMovedBy false to xs ys = AreMoved 4 to xs ys
 
 -- each offset of the table is as after the move
 abbrev pub AreMovedIn : Move → List ℕ → List ℕ → OffsetTable → Type 0
-AreMovedIn c xs ys t = AreMovedBy t.is_wide c (piece xs t.begin (t.end - t.begin)) (piece ys t.begin (t.end - t.begin))
+AreMovedIn c xs ys t =
+    AreMovedBy t.is_wide (after c) (piece xs t.begin (t.end - t.begin)) (piece ys t.begin (t.end - t.begin))
 
 abbrev pub AreAllMoved : Move → List ℕ → List ℕ → List OffsetTable → Type 0
 AreAllMoved c xs ys [] = Unit {0}

@@ -1,8 +1,7 @@
 //! Whether a movie box is as after the move.
 
-ghost use Rattle.std.specs.Prelude.{◌≡◌, ◌≤◌, IsTrue, IfOk, IfSome, length};
+ghost use Rattle.std.specs.Prelude.{◌≡◌, ◌≤◌, Some, IsTrue, IfOk, IfSome, length};
 ghost use Rattle.mp4_faststart.specs.Movie.{IsMovieAfter};
-ghost use Rattle.mp4_faststart.specs.Moved.{offset_after};
 ghost use Rattle.mp4_faststart.specs.Offsets.{AreAllMoved, AreMoved, AreMovedBy, AreMovedIn, holes_of, size_holes};
 ghost use Rattle.mp4_frame.specs.Bytes.{number};
 ghost use Rattle.mp4_pieces.specs.Holes.{AreEqualExcept};
@@ -11,26 +10,27 @@ ghost use Rattle.mp4_walk.specs.FileBoxes.{boxes_of};
 use crate::movement::Move;
 use crate::offsets::{OffsetTable, tables_of};
 use crate::refusal::Stop;
+use crate::shift::Shift;
 use mp4_frame::{u32_at, u64_at};
 use mp4_movie::Movie;
 use mp4_pieces::{Hole, are_equal_except};
 use mp4_walk::{Source, TreeBox};
 use std::alloc::{AllocError, Global};
 
-/// Returns whether `after` is the offset after the move in place of `before`.
-fn is_moved(shift: Move, before: u64, after: u64) -> bool
-    ensures { IsTrue result → after ≡ offset_after shift before }
+/// Returns whether `after` is the offset that `shift` puts in place of `before`.
+fn is_moved<F: Shift>(shift: &F, before: u64, after: u64) -> bool
+    ensures { IsTrue result → F.after shift.now before ≡ Some after }
 {
-    match shift.offset_after(before) {
+    match shift.shifted(before) {
         Some(offset) => offset == after,
         None => false,
     }
 }
 
-/// Returns whether the offsets of 32 bits in `new` are those in `old` after the move.
-fn are_short_moved(old: &[u8], new: &[u8], shift: Move) -> bool
+/// Returns whether the offsets of 32 bits in `new` are those that `shift` puts in place of those in `old`.
+fn are_short_moved<F: Shift>(old: &[u8], new: &[u8], shift: &F) -> bool
     requires { length new.now ≡ length old.now }
-    ensures { IsTrue result → AreMoved 4 shift old.now new.now }
+    ensures { IsTrue result → AreMoved 4 (F.after shift.now) old.now new.now }
 {
     for index in 0..old.len() / 4 {
         let at = 4 * index;
@@ -45,10 +45,10 @@ fn are_short_moved(old: &[u8], new: &[u8], shift: Move) -> bool
     true
 }
 
-/// Returns whether the offsets of 64 bits in `new` are those in `old` after the move.
-fn are_long_moved(old: &[u8], new: &[u8], shift: Move) -> bool
+/// Returns whether the offsets of 64 bits in `new` are those that `shift` puts in place of those in `old`.
+fn are_long_moved<F: Shift>(old: &[u8], new: &[u8], shift: &F) -> bool
     requires { length new.now ≡ length old.now }
-    ensures { IsTrue result → AreMoved 8 shift old.now new.now }
+    ensures { IsTrue result → AreMoved 8 (F.after shift.now) old.now new.now }
 {
     for index in 0..old.len() / 8 {
         let at = 8 * index;
@@ -59,10 +59,11 @@ fn are_long_moved(old: &[u8], new: &[u8], shift: Move) -> bool
     true
 }
 
-/// Returns whether the offsets in `new` are those in `old` after the move.
-fn are_moved_by(is_wide: bool, old: &[u8], new: &[u8], shift: Move) -> bool
+/// Returns whether the offsets in `new`, of 64 bits if they are wide and else of 32, are those that `shift` puts in place
+/// of those in `old`.
+pub fn are_moved_by<F: Shift>(is_wide: bool, old: &[u8], new: &[u8], shift: &F) -> bool
     requires { length new.now ≡ length old.now }
-    ensures { IsTrue result → AreMovedBy is_wide shift old.now new.now }
+    ensures { IsTrue result → AreMovedBy is_wide (F.after shift.now) old.now new.now }
 {
     if is_wide {
         are_long_moved(old, new, shift)
@@ -79,7 +80,7 @@ fn are_moved(old: &[u8], new: &[u8], table: OffsetTable, shift: Move) -> bool
     if begin > end || end > old.len() || end > new.len() {
         return false;
     }
-    are_moved_by(table.is_wide, &old[begin..end], &new[begin..end], shift)
+    are_moved_by(table.is_wide, &old[begin..end], &new[begin..end], &shift)
 }
 
 /// Returns whether the offsets of all `tables` in the movie box `new` are those in `old` after the move.

@@ -1,5 +1,7 @@
 //! The move of a movie box.
 
+use crate::shift::Shift;
+
 /// The move of the `moov` of a file, the bytes from `begin` to `end`, to the position `insert` before it. Positions are
 /// in bytes from the front of the file.
 #[derive(Clone, Copy, Debug, PartialEq, Eq)]
@@ -38,5 +40,15 @@ impl Move {
         } else {
             self.moved(offset)
         }
+    }
+}
+
+impl Shift for Move {
+    ghost use Rattle.mp4_faststart.specs.Moved.{after};
+
+    ghost after = { after };
+
+    fn shifted(&self, offset: u64) -> Option<u64> {
+        self.offset_after(offset)
     }
 }

@@ -1,14 +1,13 @@
-//! The obstacles that keep a movie box from being moved.
+//! The obstacles that keep boxes from being moved.
 
 ghost use Rattle.std.specs.Prelude.{◌≡◌};
 
-use crate::movement::Move;
 use mp4_frame::{FourCC, codes, u32_at};
 use mp4_walk::{BoxWalk, Source, TreeBox};
 use std::alloc::Global;
 use std::io;
 
-/// An obstacle that keeps a movie box from being moved. Positions are in bytes from the front of the file.
+/// An obstacle that keeps boxes from being moved, such as a movie box. Positions are in bytes from the front of the file.
 #[derive(Clone, Copy, Debug, PartialEq, Eq, thiserror::Error)]
 pub enum Obstacle {
     /// No whole box begins at a position of the top level.
@@ -57,13 +56,25 @@ fn flags_of<S: Source>(alloc: Global, tree: &mut BoxWalk<S>, found: &TreeBox) ->
     Ok(u32_at(&bytes, 0) & 0x00ff_ffff)
 }
 
-/// Returns whether boxes with `code` have offsets that are not shifted: they count from the front of the file, or are
-/// in a compressed movie, or lead from before the `moov` to what is after it. Only in the `moov` is a `saio` shifted.
-fn has_offsets(code: u32, is_before_movie: bool, is_in_movie: bool) -> bool {
+/// The place of a box by what is moved.
+#[derive(Clone, Copy, Debug, PartialEq, Eq)]
+pub struct Side {
+    /// Something is moved.
+    pub moves: bool,
+    /// The box is before something that is moved.
+    pub is_before: bool,
+    /// The box is in the `moov`.
+    pub is_in_movie: bool,
+}
+
+/// Returns whether boxes with `code` at `side` have offsets that are not shifted: they count from the front of the file,
+/// or are in a compressed movie, or lead from before something that is moved to what is after it. Only in the `moov` is a
+/// `saio` shifted.
+fn has_offsets(code: u32, side: Side) -> bool {
     match code {
-        codes::CMOV | codes::ILOC | codes::TFRA => true,
-        codes::SAIO => !is_in_movie,
-        codes::SIDX | codes::MOOF => is_before_movie,
+        codes::CMOV | codes::ILOC | codes::TFRA => side.moves,
+        codes::SAIO => side.moves && !side.is_in_movie,
+        codes::SIDX | codes::MOOF => side.is_before,
         _ => false,
     }
 }
@@ -74,12 +85,12 @@ fn is_file_reference(code: u32) -> bool {
     matches!(code, codes::URL | URN | ALIS)
 }
 
-/// Returns the obstacle to the move `shift` that `found` is, if it is one.
+/// Returns the obstacle to a move that `found`, at `side`, is, if it is one.
 pub fn obstacle_at<S: Source>(
     alloc: Global,
     tree: &mut BoxWalk<S>,
     found: &TreeBox,
-    shift: Move,
+    side: Side,
 ) -> io::Result<Option<Obstacle>>
     ensures { tree.new ≡ tree.old }
 {
@@ -90,12 +101,13 @@ pub fn obstacle_at<S: Source>(
     let Some(code) = found.code else {
         return Ok(None);
     };
-    let is_before_movie = position < shift.begin;
-    let is_in_movie = shift.begin <= position && position < shift.end;
-    if has_offsets(code.into(), is_before_movie, is_in_movie) {
+    if has_offsets(code.into(), side) {
         return Ok(Some(Obstacle::Offsets { code, position }));
     }
-    if code == FourCC::from(codes::TFHD) && flags_of(alloc, tree, found)? & BASE_DATA_OFFSET != 0 {
+    if side.moves
+        && code == FourCC::from(codes::TFHD)
+        && flags_of(alloc, tree, found)? & BASE_DATA_OFFSET != 0
+    {
         return Ok(Some(Obstacle::Offsets { code, position }));
     }
     if found.context.parent == codes::DREF

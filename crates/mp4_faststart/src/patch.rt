@@ -4,17 +4,18 @@ use crate::movement::Move;
 use crate::obstacle::Obstacle;
 use crate::offsets::{OffsetTable, is_table, table_in};
 use crate::refusal::{Refusal, Stop};
+use crate::shift::Shift;
 use byteorder::{BigEndian, ByteOrder};
 use mp4_frame::{u32_at, u64_at};
 use mp4_walk::{BoxWalk, TreeBox};
 use std::alloc::Global;
 
 /// Shifts offsets of 32 bits in place. Returns whether all fit.
-fn shift_short(offsets: &mut [u8], shift: Move) -> bool {
+fn shift_short<F: Shift>(offsets: &mut [u8], shift: &F) -> bool {
     for index in 0..offsets.len() / 4 {
         let at = 4 * index;
         let offset = u64::from(u32_at(offsets, at));
-        match shift.offset_after(offset) {
+        match shift.shifted(offset) {
             Some(moved) if moved <= u64::from(u32::MAX) => {
                 BigEndian::write_u32(&mut offsets[at..at + 4], moved as u32);
             }
@@ -25,15 +26,24 @@ fn shift_short(offsets: &mut [u8], shift: Move) -> bool {
 }
 
 /// Shifts offsets of 64 bits in place. Returns whether all fit.
-fn shift_long(offsets: &mut [u8], shift: Move) -> bool {
+fn shift_long<F: Shift>(offsets: &mut [u8], shift: &F) -> bool {
     for index in 0..offsets.len() / 8 {
         let at = 8 * index;
-        match shift.offset_after(u64_at(offsets, at)) {
+        match shift.shifted(u64_at(offsets, at)) {
             Some(moved) => BigEndian::write_u64(&mut offsets[at..at + 8], moved),
             None => return false,
         }
     }
     true
+}
+
+/// Shifts offsets in place, of 64 bits if they are wide and else of 32. Returns whether all have another one that fits.
+pub fn shift_offsets<F: Shift>(is_wide: bool, offsets: &mut [u8], shift: &F) -> bool {
+    if is_wide {
+        shift_long(offsets, shift)
+    } else {
+        shift_short(offsets, shift)
+    }
 }
 
 /// Shifts the offsets of a table in place. Returns whether all fit.
@@ -42,11 +52,7 @@ fn shift_table(bytes: &mut [u8], table: OffsetTable, shift: Move) -> bool {
     if begin > end || end > bytes.len() {
         return false;
     }
-    if table.is_wide {
-        shift_long(&mut bytes[begin..end], shift)
-    } else {
-        shift_short(&mut bytes[begin..end], shift)
-    }
+    shift_offsets(table.is_wide, &mut bytes[begin..end], &shift)
 }
 
 /// Shifts the offsets of a box in place, if it has any. Refuses a table that doesn't have all its offsets.

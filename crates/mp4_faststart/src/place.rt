@@ -5,7 +5,7 @@ ghost use Rattle.mp4_faststart.specs.Places.{IsPlaced, first_box};
 ghost use Rattle.mp4_walk.specs.FileBoxes.{boxes_of};
 
 use crate::movement::Move;
-use crate::obstacle::{Obstacle, obstacle_at};
+use crate::obstacle::{Obstacle, Side, obstacle_at};
 use crate::refusal::{Refusal, Stop};
 use mp4_frame::{FourCC, codes};
 use mp4_movie::{Movie, first_in};
@@ -59,6 +59,15 @@ fn second_movie(boxes: &[TreeBox]) -> Option<u64> {
     None
 }
 
+/// Returns the side of `found` by the move `shift`.
+fn side_of(found: &TreeBox, shift: Move) -> Side {
+    Side {
+        moves: true,
+        is_before: found.position < shift.begin,
+        is_in_movie: shift.begin <= found.position && found.position < shift.end,
+    }
+}
+
 /// Checks that none of `boxes` is an obstacle to the move `shift`.
 fn check_boxes<S: Source>(
     alloc: Global,
@@ -69,7 +78,7 @@ fn check_boxes<S: Source>(
     ensures { walk.new ≡ walk.old }
 {
     for found in boxes {
-        if let Some(obstacle) = obstacle_at(alloc, walk, found, shift)? {
+        if let Some(obstacle) = obstacle_at(alloc, walk, found, side_of(found, shift))? {
             return Err(Stop::Refused(Refusal::Obstacle(obstacle)));
         }
     }

@@ -1,4 +1,4 @@
--- The place to which the command `faststart` writes, and its message if it writes nothing.
+-- The place to which a command writes, and its message if it writes nothing.
 use Rattle.std.specs.Prelude.{ℕ, Bool, ◌==◌, ◌&&◌, List, ◌++◌, None, Some, Result, Ok, Err, codes, if◌then◌else◌}
 use Rattle.std.specs.Fmt.{decimal}
 use Rattle.std.specs.declared.option.Option.{Option}

@@ -1,4 +1,4 @@
-//! The place to which the command `faststart` writes, which depends on what is at the given name.
+//! The place to which a command writes, which depends on what is at the given name.
 
 ghost use Rattle.std.specs.Prelude.{◌≡◌, ◌↔◌, Some, IfOk};
 ghost use Rattle.std.specs.Fs.{IsFile, file_type};

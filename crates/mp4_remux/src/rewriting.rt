@@ -1,11 +1,11 @@
-//! The command `faststart`, which writes a file with its `moov` before its media data. It writes a new file beside the
-//! target and renames it once it is complete, so the target is whole or unchanged.
+//! Reading a file and writing a new one. It writes a new file beside the target and renames it once it is complete, so
+//! the target is whole or unchanged.
 
 use crate::destination::{Destination, Node, NodeKind, choose_destination, partial_beside};
 use crate::outcome::Outcome;
 use crate::progress::Progress;
+use crate::task::{Done, Stop, Task, carry_out};
 use mp4_command::{Kept, MISUSE, escaped};
-use mp4_faststart::{Move, Stop, write_fast_start};
 use mp4_io::{Failure, Output, Steady, is_closed_pipe};
 use std::fs::{File, Metadata, OpenOptions, Permissions};
 use std::io::{ErrorKind, IsTerminal, Write};
@@ -135,11 +135,12 @@ fn create_beside(rt: &HostRuntime, target: &str) -> io::Result<(File, PathBuf)> 
 /// Writes everything, and removes the line of the progress.
 fn write_everything<W: Write>(
     rt: &HostRuntime,
+    task: Task,
     first: &mut Kept<File>,
     second: &mut Kept<File>,
     output: &mut Output<Steady<Progress<W>>>,
-) -> Result<Option<Move>, Stop> {
-    let run = write_fast_start(rt.alloc(), first, second, output);
+) -> Result<Done, Stop> {
+    let run = carry_out(rt.alloc(), task, first, second, output);
     output.inner.inner.clear();
     run
 }
@@ -147,25 +148,28 @@ fn write_everything<W: Write>(
 /// Writes everything into a new file.
 fn write_file(
     rt: &HostRuntime,
+    task: Task,
     opened: &mut Opened,
     output: &mut Output<Steady<Progress<File>>>,
-) -> Result<Option<Move>, Stop> {
-    let moved = write_everything(rt, &mut opened.first, &mut opened.second, output)?;
+) -> Result<Done, Stop> {
+    let done = write_everything(rt, task, &mut opened.first, &mut opened.second, output)?;
     if let Err(error) = output.inner.inner.inner.sync_all() {
         output.inner.error = Some(error);
         return Err(Stop::Failed(Failure::Write));
     }
-    Ok(moved)
+    Ok(done)
 }
 
 /// Prints what was written to the file whose name in messages is `shown`.
-fn tell_done(rt: &HostRuntime, shown: &str, done: Option<Move>) -> Result<Outcome, Failure> {
+fn tell_done(rt: &HostRuntime, shown: &str, done: Done) -> Result<Outcome, Failure> {
     let told = match done {
-        Some(moved) => println!(rt;
+        Done::Moved(moved) => println!(rt;
             "{shown}: moov is moved from {} to {}",
             moved.begin, moved.insert
         ),
-        None => println!(rt; "{shown}: a copy, as no media data are before the moov"),
+        Done::Copied => println!(rt; "{shown}: a copy, as no media data are before the moov"),
+        Done::Edited(1) => println!(rt; "{shown}: 1 edit is made"),
+        Done::Edited(count) => println!(rt; "{shown}: {count} edits are made"),
     };
     match told {
         Ok(()) => Ok(Outcome::Written),
@@ -185,10 +189,11 @@ fn put_in_place(
     fs::rename(rt, partial, target)
 }
 
-/// Writes the file that is read with its `moov` before its media data to the path `target`, first into a file of
-/// another name. The new file gets the permissions of the file that is read.
+/// Writes the new file to the path `target`, first into a file of another name. The new file gets the permissions of the
+/// file that is read.
 fn write_to(
     rt: &HostRuntime,
+    task: Task,
     names: Names<'_>,
     target: &str,
     mut opened: Opened,
@@ -199,7 +204,7 @@ fn write_to(
     };
     let permissions = Permissions::from_mode(opened.mode & 0o777);
     let mut output = Output::new(Steady::new(Progress::new(rt, file, opened.length)));
-    let run = write_file(rt, &mut opened, &mut output);
+    let run = write_file(rt, task, &mut opened, &mut output);
     let outcome = Outcome::of_run(&run);
     let done = match run {
         Ok(done) => done,
@@ -216,9 +221,10 @@ fn write_to(
     tell_done(rt, names.shown_to, done)
 }
 
-/// Writes the file that is read, which is the node `source`, to the file to which the name `names.to` leads.
+/// Writes the new file to the file to which the name `names.to` leads. The file that is read is the node `source`.
 fn write_named(
     rt: &HostRuntime,
+    task: Task,
     names: Names<'_>,
     opened: Opened,
     source: Node,
@@ -236,15 +242,21 @@ fn write_named(
         }
     };
     match path_of(rt, names.to, destination) {
-        Ok(target) => write_to(rt, names, target.as_str(), opened),
+        Ok(target) => write_to(rt, task, names, target.as_str(), opened),
         Err(error) => Ok(tell(rt, names.shown_to, &error)),
     }
 }
 
-/// Writes the file that is read with its `moov` before its media data to the standard output.
-fn write_to_pipe(rt: &HostRuntime, names: Names<'_>, mut opened: Opened) -> Outcome {
+/// Writes the new file to the standard output.
+fn write_to_pipe(rt: &HostRuntime, task: Task, names: Names<'_>, mut opened: Opened) -> Outcome {
     let mut output = Output::new(Steady::new(Progress::new(rt, rt.stdout(), opened.length)));
-    let run = write_everything(rt, &mut opened.first, &mut opened.second, &mut output);
+    let run = write_everything(
+        rt,
+        task,
+        &mut opened.first,
+        &mut opened.second,
+        &mut output,
+    );
     let outcome = Outcome::of_run(&run);
     if let Err(stop) = run {
         tell_stop(rt, names, &stop, opened, output.inner.error);
@@ -301,10 +313,9 @@ fn misuse(rt: &HostRuntime, what: &str) -> u8 {
     MISUSE
 }
 
-/// Writes the boxes of the file `from` to the file `to`, with the `moov` before the media data, or leaves `to` as it
-/// was. If `to` is `-`, writes to the standard output. Returns the exit status: 1 if `from` is refused, and 2 if `from`
-/// is `-`.
-pub fn fast_start(rt: &HostRuntime, from: &str, to: &str) -> Result<u8, Failure> {
+/// Carries out `task` with the file `from` and writes the file `to`, or leaves `to` as it was. If `to` is `-`, writes to
+/// the standard output. Returns the exit status: 1 if `from` is refused, and 2 if `from` is `-`.
+pub fn rewrite(rt: &HostRuntime, task: Task, from: &str, to: &str) -> Result<u8, Failure> {
     if from == "-" {
         return Ok(misuse(
             rt,
@@ -328,7 +339,7 @@ pub fn fast_start(rt: &HostRuntime, from: &str, to: &str) -> Result<u8, Failure>
         return Ok(Outcome::Failed.status());
     };
     if to == "-" {
-        return Ok(write_to_pipe(rt, names, opened).status());
+        return Ok(write_to_pipe(rt, task, names, opened).status());
     }
-    Ok(write_named(rt, names, opened, node)?.status())
+    Ok(write_named(rt, task, names, opened, node)?.status())
 }
