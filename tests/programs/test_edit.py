@@ -1,10 +1,11 @@
-"""Runs the built program `mp4remux edit` as a user does, over files that are made by hand. What it should write is made a
-second time here, by a tree of the boxes that shares nothing with the codec, and compared byte for byte. The samples of
-both files are compared by readers/samples.py.
+"""Runs the built program `mp4remux edit` as a user does, over files that are made by hand. What it should write is made
+a second time here, by a tree of the boxes that shares nothing with the codec, and compared byte for byte. The samples
+of both files are compared by readers/samples.py.
 
 - Boxes are removed, inserted and replaced at each place of a file, before and after the media data. Sizes of 32 and 64
   bits and offsets of each kind follow.
-- Each shortcut: brands, languages, rotations, flags of tracks, tags and covers, dropped tracks with tables and fragments.
+- Each shortcut: brands, languages, rotations, flags of tracks, tags and covers, dropped tracks with tables and
+  fragments.
 - Each refusal is expected with its text. Then nothing is written, and existing files are unchanged.
 - Wrong values of options, and files that can't be read or have no boxes.
 - OUT can be a pipe.

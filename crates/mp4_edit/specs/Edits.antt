@@ -55,6 +55,15 @@ is_child x y = (y.depth == x.depth + 1) && nat_lt x.position y.position && nat_l
 abbrev pub is_top : TreeBox → Bool
 is_top x = x.depth == 0
 
+-- the boxes of a level: those of the file, or those in a box
+abbrev pub level_of : Option TreeBox → List TreeBox → List TreeBox
+level_of None boxes = filter is_top boxes
+level_of (Some x) boxes = filter (is_child x) boxes
+
+abbrev pub is_in_level : Option TreeBox → TreeBox → Bool
+is_in_level None y = is_top y
+is_in_level (Some x) y = is_child x y
+
 -- the position after the last of these boxes, which are those of a level that ends at `end`. What is not a whole box,
 -- such as QuickTime's terminator of a `udta`, comes after them
 abbrev pub after_last : List TreeBox → ℕ → ℕ
@@ -73,11 +82,11 @@ IsClosed B x = box_end x ≡ length B → number B x.position 4 ≢ 0
 -- the splice inserts bytes into the top level of the file B or into a box, before a child or after the last one
 abbrev pub Inserts : List ℕ → Parent → Option ℕ → Splice → Type 0
 Inserts B parents.File before s =
-    (s.depth ≡ 0) × (s.end ≡ s.begin) × IsPlace (filter is_top (boxes_of B)) (length B) before s.begin
-    × All (IsClosed B) (filter is_top (boxes_of B))
+    (s.depth ≡ 0) × (s.end ≡ s.begin) × IsPlace (level_of None (boxes_of B)) (length B) before s.begin
+    × All (IsClosed B) (level_of None (boxes_of B))
 Inserts B (parents.In path) before s =
     (x : TreeBox) × IsAt B path x × (s.depth ≡ x.depth + 1) × (s.end ≡ s.begin)
-    × IsPlace (filter (is_child x) (boxes_of B)) (box_end x) before s.begin
+    × IsPlace (level_of (Some x) (boxes_of B)) (box_end x) before s.begin
 
 -- the splice of an edit of the file B
 abbrev pub IsSpliceOf : List ℕ → Edit → Splice → Type 0

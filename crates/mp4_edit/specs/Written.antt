@@ -12,8 +12,8 @@ use Rattle.mp4_edit.specs.declared.refusal.Stop.{Stop}
 use Rattle.mp4_edit.specs.declared.refusal.Stop.TheVariants.{Failed, Refused}
 use Rattle.mp4_edit.specs.declared.splice.Splice.{Splice}
 
--- The file C is the file B after these edits. In the file that the hidden splices make of B, the boxes of dropped tracks
--- are `free` boxes. So it is B without these tracks, and C is an edit of it
+-- The file C is the file B after these edits. In the file that the hidden splices make of B, the boxes of dropped
+-- tracks are `free` boxes. So it is B without these tracks, and C is an edit of it
 pub record IsEditOf (B : List ℕ) (edits : List Edit) (C : List ℕ) : Type 0 where
   pub hidden : List Splice
   pub splices : List Splice

@@ -1,13 +1,16 @@
 //! The comparison of the files that two lists of pieces spell out over one old file.
 
-ghost use Rattle.std.specs.Prelude.{◌≡◌, ◌+◌, ◌≤◌, IsTrue, length};
-ghost use Rattle.mp4_edit.specs.Alike.{AreAlike};
-ghost use Rattle.mp4_pieces.specs.Pieces.{long};
+ghost use Rattle.std.specs.Prelude.{◌≡◌, ◌+◌, ◌<◌, ◌≤◌, ℕ, IsTrue, List, drop, length, true};
+ghost use Rattle.mp4_edit.specs.Alike.{AreAlike, AreAlikeAt};
+ghost use Rattle.mp4_pieces.specs.Holes.{in_holes};
+ghost use Rattle.mp4_pieces.specs.Pieces.{IsWithin, bytes_of, long};
 
 use mp4_pieces::{Hole, Piece};
 
 /// Returns whether one of `holes` has the bytes from `at` to `end`.
-fn is_in_hole(holes: &[Hole], at: u64, end: u64) -> bool {
+fn is_in_hole(holes: &[Hole], at: u64, end: u64) -> bool
+    ensures { IsTrue result → (i : ℕ) → at ≤ i → i < end → in_holes holes.now i ≡ true }
+{
     for hole in holes {
         if hole.begin as u64 <= at && end <= hole.end as u64 {
             return true;
@@ -17,7 +20,9 @@ fn is_in_hole(holes: &[Hole], at: u64, end: u64) -> bool {
 }
 
 /// Returns whether one of `holes` has the byte `at`.
-fn has_hole(holes: &[Hole], at: u64) -> bool {
+fn has_hole(holes: &[Hole], at: u64) -> bool
+    ensures { result ≡ in_holes holes.now at }
+{
     for hole in holes {
         if hole.begin as u64 <= at && at < hole.end as u64 {
             return true;
@@ -30,6 +35,7 @@ fn has_hole(holes: &[Hole], at: u64) -> bool {
 /// `at` of both files.
 fn are_bytes_alike(first: &[u8], second: &[u8], at: u64, holes: &[Hole]) -> bool
     requires { length second.now ≡ length first.now }
+    ensures { IsTrue result → AreAlikeAt holes.now at (length first.now) first.now second.now }
 {
     for index in 0..first.len() {
         if first[index] != second[index] && !has_hole(holes, at.saturating_add(index as u64)) {
@@ -52,6 +58,8 @@ fn are_parts_alike(
 ) -> bool
     requires first { skip + count ≤ long first.now }
     requires second { jump + count ≤ long second.now }
+    ensures { IsTrue result → (B : List ℕ) → IsWithin (length B) first.now → IsWithin (length B) second.now
+        → AreAlikeAt holes.now at count (drop skip (bytes_of B first.now)) (drop jump (bytes_of B second.now)) }
 {
     match first {
         Piece::New(bytes) => match second {

@@ -1,9 +1,14 @@
 //! Whether a planned file is the old file after splices, and nothing else is changed.
 
-ghost use Rattle.std.specs.Prelude.{◌≡◌, All, Some, IfSome, OnOk, length};
-ghost use Rattle.mp4_edit.specs.Edited.{IsEdited, IsUntouched};
+ghost use Rattle.std.specs.Prelude.{◌≡◌, ◌++◌, ◌∷◌, [], ℕ, All, List, Some, IfOk, IfSome, IsSome, IsTrue, OnOk};
+ghost use Rattle.std.specs.Prelude.{length};
+ghost use Rattle.mp4_edit.specs.Edited.{IsEdited, IsSized, IsTableAfter, IsUntouched, around, hole_at, holes_of};
+ghost use Rattle.mp4_edit.specs.Edited.{size_at, size_width};
 ghost use Rattle.mp4_edit.specs.OldFiles.{IsOldFile};
-ghost use Rattle.mp4_edit.specs.Splices.{AreInOrder};
+ghost use Rattle.mp4_edit.specs.Splices.{AreInOrder, place, spliced};
+ghost use Rattle.mp4_faststart.specs.Offsets.{at_most};
+ghost use Rattle.mp4_frame.specs.Bytes.{number};
+ghost use Rattle.mp4_pieces.specs.Holes.{AreEqualExcept};
 ghost use Rattle.mp4_pieces.specs.Pieces.{spelled};
 ghost use Rattle.mp4_walk.specs.FileBoxes.{boxes_of};
 
@@ -27,7 +32,9 @@ fn changed() -> Stop {
 }
 
 /// Returns the position of the size of `found`.
-fn size_at(found: &TreeBox) -> u64 {
+fn size_at(found: &TreeBox) -> u64
+    ensures { result ≡ at_most (size_at found.now) }
+{
     if found.header_length == 16 {
         found.position.saturating_add(8)
     } else {
@@ -36,12 +43,16 @@ fn size_at(found: &TreeBox) -> u64 {
 }
 
 /// Returns the number of bytes of the size of `found`.
-fn size_width(found: &TreeBox) -> u64 {
+fn size_width(found: &TreeBox) -> u64
+    ensures { result ≡ size_width found.now }
+{
     if found.header_length == 16 { 8 } else { 4 }
 }
 
 /// Returns the hole of `width` bytes at the place of the old byte `at`, or `None` if there is no such place.
-fn hole_at(splices: &[Splice], at: u64, width: u64) -> Option<Hole> {
+fn hole_at(splices: &[Splice], at: u64, width: u64) -> Option<Hole>
+    ensures { IfSome result (λ h. h ≡ hole_at (place splices.now at) width) }
+{
     let begin = place(splices, at)?;
     let end = begin.checked_add(width)?;
     Some(Hole {
@@ -51,7 +62,9 @@ fn hole_at(splices: &[Splice], at: u64, width: u64) -> Option<Hole> {
 }
 
 /// Adds `hole` to `holes`. Refuses if there is none.
-fn add(holes: &mut Vec<Hole>, hole: Option<Hole>) -> Result<(), Stop> {
+fn add(holes: &mut Vec<Hole>, hole: Option<Hole>) -> Result<(), Stop>
+    ensures { OnOk result (IfSome hole (λ h. holes.new.items ≡ holes.old.items ++ h ∷ []) × IsSome hole) }
+{
     match hole {
         Some(hole) => match holes.push(hole) {
             Ok(()) => Ok(()),
@@ -63,7 +76,10 @@ fn add(holes: &mut Vec<Hole>, hole: Option<Hole>) -> Result<(), Stop> {
 
 /// Returns the places of the new file that may change besides the splices: the sizes of the boxes around them, and the
 /// offsets in the `moov`.
-fn holes_of(alloc: Global, file: &OldFile, splices: &[Splice]) -> Result<Vec<Hole>, Stop> {
+fn holes_of(alloc: Global, file: &OldFile, splices: &[Splice]) -> Result<Vec<Hole>, Stop>
+    ensures { (B : List ℕ) → IsOldFile B splices.now file.now
+        → IfOk result (λ holes. holes.items ≡ holes_of B splices.now) }
+{
     let mut holes = Vec::new(alloc);
     for found in &file.boxes {
         if is_around(found, splices) {
@@ -87,7 +103,10 @@ fn check_same(
     file: &OldFile,
     splices: &[Splice],
     plan: &Plan,
-) -> Result<(), Stop> {
+) -> Result<(), Stop>
+    ensures { OnOk result ((B : List ℕ) → IsOldFile B splices.now file.now
+        → AreEqualExcept (holes_of B splices.now) (spliced B splices.now) (spelled B plan.now)) }
+{
     let holes = holes_of(alloc, file, splices)?;
     let expected = plan_spliced(alloc, file.length, splices)?;
     if expected.is_within(file.length)
@@ -101,7 +120,8 @@ fn check_same(
 
 /// Returns the number of 64 bits at position `at`.
 fn long_at<T: Source>(source: &mut T, at: u64) -> io::Result<u64>
-    ensures { T.all source.new ≡ T.all source.old }
+    ensures value { IfSome (T.all source.old) (λ B. IfOk result (λ n. n ≡ number B at 8)) }
+    ensures keeps { T.all source.new ≡ T.all source.old }
 {
     let mut bytes = [0; 8];
     source.read_at(at, &mut bytes)?;
@@ -134,20 +154,24 @@ fn is_sized<S: Source, T: Source>(
     found: &TreeBox,
     total: u64,
 ) -> io::Result<bool>
+    ensures value { IfSome (S.all old.old) (λ B. IfSome (T.all new.old) (λ C. total ≡ length C
+        → IfOk result (λ is. IsTrue is → IsSized B C splices.now found.now))) }
     ensures old { S.all old.new ≡ S.all old.old }
     ensures new { T.all new.new ≡ T.all new.old }
 {
-    let (Some(at), Some(size_at), Some(length)) = (
-        place(splices, found.position),
-        place(splices, size_at(found)),
-        length_after(splices, found),
-    ) else {
+    let Some(at) = place(splices, found.position) else {
+        return Ok(false);
+    };
+    let Some(field) = place(splices, size_at(found)) else {
+        return Ok(false);
+    };
+    let Some(length) = length_after(splices, found) else {
         return Ok(false);
     };
     if found.header_length == 16 {
-        return Ok(long_at(new, size_at)? == length);
+        return Ok(long_at(new, field)? == length);
     }
-    Ok(u64::from(short_at(new, size_at)?) == length
+    Ok(u64::from(short_at(new, field)?) == length
         || is_open(old, new, found, at, length, total)?)
 }
 
@@ -158,6 +182,8 @@ fn check_sizes<S: Source, T: Source>(
     file: &OldFile,
     splices: &[Splice],
 ) -> Result<(), Stop>
+    ensures sizes { OnOk result (IfSome (S.all old.old) (λ B. IfSome (T.all new.old)
+        (λ C. All (IsSized B C splices.now) (around splices.now file.now.boxes.items)))) }
     ensures old { S.all old.new ≡ S.all old.old }
     ensures new { T.all new.new ≡ T.all new.old }
 {
@@ -178,7 +204,9 @@ fn is_table_after<T: Source>(
     splices: &[Splice],
     table: OffsetTable,
 ) -> Result<bool, Stop>
-    ensures { T.all new.new ≡ T.all new.old }
+    ensures value { (B : List ℕ) → IsOldFile B splices.now file.now → IfSome (T.all new.old)
+        (λ C. IfOk result (λ is. IsTrue is → IsTableAfter B C splices.now file.now.begin table)) }
+    ensures new { T.all new.new ≡ T.all new.old }
 {
     let (begin, end) = (table.begin, table.end);
     if begin > end || end > file.movie.len() {
@@ -205,7 +233,9 @@ fn check_offsets<T: Source>(
     file: &OldFile,
     splices: &[Splice],
 ) -> Result<(), Stop>
-    ensures { T.all new.new ≡ T.all new.old }
+    ensures offsets { OnOk result ((B : List ℕ) → IsOldFile B splices.now file.now → IfSome (T.all new.old)
+        (λ C. All (IsTableAfter B C splices.now file.now.begin) file.now.tables.items)) }
+    ensures new { T.all new.new ≡ T.all new.old }
 {
     for table in &file.tables {
         if !is_table_after(alloc, new, file, splices, *table)? {
@@ -225,8 +255,8 @@ pub fn check_places(alloc: Global, file: &OldFile, splices: &[Splice]) -> Result
 }
 
 /// Checks that the new file, which `plan` spells out over `old`, is the old one after `splices`, and that nothing else
-/// is changed except for sizes and offsets, which are as they have to be. `file` is what is read of the old file. Relies
-/// on `check_places`.
+/// is changed except for sizes and offsets, which are as they have to be. `file` is what is read of the old file.
+/// Relies on `check_places`.
 pub fn check_edited<S: Source, T: Source>(
     alloc: Global,
     old: &mut S,

@@ -1,5 +1,5 @@
-//! Edits of the boxes of a file that keep every sample of every track. All other bytes stay the same too, except for the
-//! sizes of the boxes around an edit, and offsets, which lead to the same bytes as before.
+//! Edits of the boxes of a file that keep every sample of every track. All other bytes stay the same too, except for
+//! the sizes of the boxes around an edit, and offsets, which lead to the same bytes as before.
 #![tactic(auto)]
 
 mod alike;

@@ -1,8 +1,12 @@
 //! The splices that edits name.
 
-ghost use Rattle.std.specs.Prelude.{◌≡◌, None, Some, length, IfOk, IfSome, OnOk};
-ghost use Rattle.mp4_edit.specs.Edits.{AreNamed, IsSpliceOf};
+ghost use Rattle.std.specs.Prelude.{◌≡◌, ◌≢◌, ◌++◌, ◌∷◌, [], ℕ, All, List, None, Some, length, slice_get};
+ghost use Rattle.std.specs.Prelude.{IfOk, IfSome, OnOk};
+ghost use Rattle.std.specs.List.Sorted.{IsPermutation};
+ghost use Rattle.mp4_edit.specs.Edits.{AreNamed, Covers, Inserts, IsClosed, IsPlace, IsSpliceOf, is_in_level, level_of};
 ghost use Rattle.mp4_edit.specs.Splices.{AreInOrder};
+ghost use Rattle.mp4_faststart.specs.Offsets.{box_end};
+ghost use Rattle.mp4_frame.specs.Bytes.{number};
 ghost use Rattle.mp4_walk.specs.FileBoxes.{boxes_of};
 ghost use Rattle.mp4_walk.specs.Paths.{at_path};
 
@@ -72,7 +76,9 @@ pub fn box_at(boxes: &[TreeBox], path: &BoxPath) -> Option<TreeBox>
 }
 
 /// Returns the position after the box.
-fn end_of(found: &TreeBox) -> u64 {
+fn end_of(found: &TreeBox) -> u64
+    ensures { result ≡ box_end found.now }
+{
     found.position.saturating_add(found.length)
 }
 
@@ -107,7 +113,9 @@ fn counts(code: u32) -> bool {
 }
 
 /// Returns whether `found` is in the level of the boxes in `parent`, or else in the top level.
-fn is_in(parent: &Option<TreeBox>, found: &TreeBox) -> bool {
+fn is_in(parent: &Option<TreeBox>, found: &TreeBox) -> bool
+    ensures { result ≡ is_in_level parent.now found.now }
+{
     match parent {
         None => found.depth == 0,
         Some(around) => {
@@ -126,7 +134,9 @@ fn place_in(
     parent: &Option<TreeBox>,
     before: Option<u64>,
     end: u64,
-) -> Result<u64, u64> {
+) -> Result<u64, u64>
+    ensures { IfOk result (IsPlace (level_of parent.now boxes.now) end before) }
+{
     let mut count: u64 = 0;
     for found in boxes {
         if is_in(parent, found) {
@@ -147,7 +157,10 @@ fn place_in(
 }
 
 /// Returns a splice of the whole box.
-fn covering(found: &TreeBox, bytes: Vec<u8>) -> Splice {
+fn covering(found: &TreeBox, bytes: Vec<u8>) -> Splice
+    ensures place { Covers found.now result }
+    ensures bytes { result.bytes ≡ bytes }
+{
     Splice {
         depth: found.depth,
         begin: found.position,
@@ -157,12 +170,25 @@ fn covering(found: &TreeBox, bytes: Vec<u8>) -> Splice {
 }
 
 /// Returns a splice that puts `bytes` in at position `at`.
-fn inserting(depth: u64, at: u64, bytes: Vec<u8>) -> Splice {
+fn inserting(depth: u64, at: u64, bytes: Vec<u8>) -> Splice
+    ensures depth { result.depth ≡ depth }
+    ensures begin { result.begin ≡ at }
+    ensures end { result.end ≡ at }
+    ensures bytes { result.bytes ≡ bytes }
+{
     Splice {
         depth,
         begin: at,
         end: at,
         bytes,
+    }
+}
+
+/// Returns the code of the box, or 0 if its header is cut.
+fn code_of(found: &TreeBox) -> u32 {
+    match found.code {
+        Some(code) => u32::from(code),
+        None => 0,
     }
 }
 
@@ -173,7 +199,10 @@ fn inserted(
     path: &BoxPath,
     before: Option<u64>,
     bytes: Vec<u8>,
-) -> Result<Splice, Stop> {
+) -> Result<Splice, Stop>
+    ensures place { (B : List ℕ) → boxes.now ≡ boxes_of B → IfOk result (Inserts B (Parent.In path.now) before) }
+    ensures bytes { IfOk result (λ s. s.bytes ≡ bytes) }
+{
     let found = whole_box(alloc, boxes, path)?;
     if found.children.is_none() {
         let text = path_text(alloc, path)?;
@@ -182,7 +211,7 @@ fn inserted(
             position: found.position,
         }));
     }
-    if counts(found.code.map_or(0, u32::from)) {
+    if counts(code_of(&found)) {
         let text = path_text(alloc, path)?;
         return Err(Stop::Refused(Refusal::Counted { path: text }));
     }
@@ -205,7 +234,8 @@ fn size_field<S: Source>(
     walk: &mut BoxWalk<S>,
     found: &TreeBox,
 ) -> Result<u32, Stop>
-    ensures { walk.new ≡ walk.old }
+    ensures value { IfSome walk.old.bytes (λ B. IfOk result (λ n. n ≢ 0 → number B found.now.position 4 ≢ 0)) }
+    ensures kept { walk.new ≡ walk.old }
 {
     let front = TreeBox {
         length: 4,
@@ -224,7 +254,9 @@ fn check_closed<S: Source>(
     walk: &mut BoxWalk<S>,
     boxes: &[TreeBox],
 ) -> Result<(), Stop>
-    ensures { walk.new ≡ walk.old }
+    ensures closed { OnOk result
+        (IfSome walk.old.bytes (λ B. All (IsClosed B) (level_of None boxes.now))) }
+    ensures kept { walk.new ≡ walk.old }
 {
     let length = walk.length();
     for found in boxes {
@@ -246,7 +278,10 @@ fn inserted_on_top<S: Source>(
     before: Option<u64>,
     bytes: Vec<u8>,
 ) -> Result<Splice, Stop>
-    ensures { walk.new ≡ walk.old }
+    ensures place { IfSome walk.old.bytes
+        (λ B. boxes.now ≡ boxes_of B → IfOk result (Inserts B Parent.File before)) }
+    ensures bytes { IfOk result (λ s. s.bytes ≡ bytes) }
+    ensures kept { walk.new ≡ walk.old }
 {
     check_closed(alloc, walk, boxes)?;
     match place_in(boxes, &None, before, walk.length()) {
@@ -263,7 +298,9 @@ fn inserted_on_top<S: Source>(
 }
 
 /// Returns the splice that removes the box at `path`.
-fn removal(alloc: Global, boxes: &[TreeBox], path: &BoxPath) -> Result<Splice, Stop> {
+fn removal(alloc: Global, boxes: &[TreeBox], path: &BoxPath) -> Result<Splice, Stop>
+    ensures { (B : List ℕ) → boxes.now ≡ boxes_of B → IfOk result (IsSpliceOf B (Edit.Remove path.now)) }
+{
     let found = whole_box(alloc, boxes, path)?;
     if counts(found.context.parent) {
         let text = path_text(alloc, path)?;
@@ -279,7 +316,9 @@ fn writing(
     path: &BoxPath,
     at: u64,
     bytes: Vec<u8>,
-) -> Result<Splice, Stop> {
+) -> Result<Splice, Stop>
+    ensures { (B : List ℕ) → boxes.now ≡ boxes_of B → IfOk result (IsSpliceOf B (Edit.Write path.now at bytes)) }
+{
     let found = whole_box(alloc, boxes, path)?;
     let long = bytes.len() as u64;
     let room = found.content_length();
@@ -300,7 +339,10 @@ fn writing(
 }
 
 /// Returns the box that begins at position `at`. The positions of boxes ascend.
-fn box_from(boxes: &[TreeBox], at: u64) -> Option<TreeBox> {
+fn box_from(boxes: &[TreeBox], at: u64) -> Option<TreeBox>
+    ensures place { IfSome result (λ x. x.position ≡ at) }
+    ensures among { IfSome result (λ x. (n : ℕ) × (slice_get boxes.now n ≡ Some x)) }
+{
     let mut low = 0;
     let mut high = boxes.len();
     while low < high {
@@ -318,7 +360,9 @@ fn box_from(boxes: &[TreeBox], at: u64) -> Option<TreeBox> {
 }
 
 /// Returns the splice that hides the `trak` or `traf` at position `at`.
-fn hiding(alloc: Global, boxes: &[TreeBox], at: u64) -> Result<Splice, Stop> {
+fn hiding(alloc: Global, boxes: &[TreeBox], at: u64) -> Result<Splice, Stop>
+    ensures { (B : List ℕ) → boxes.now ≡ boxes_of B → IfOk result (IsSpliceOf B (Edit.Hide at)) }
+{
     match box_from(boxes, at) {
         Some(found)
             if found.has_code(FourCC::from(codes::TRAK))
@@ -372,14 +416,18 @@ fn splice_of<S: Source>(
 }
 
 /// Adds `splice` to `splices`.
-fn push(splices: &mut Vec<Splice>, splice: Splice) -> Result<(), AllocError> {
+fn push(splices: &mut Vec<Splice>, splice: Splice) -> Result<(), AllocError>
+    ensures { OnOk result (splices.new.items ≡ splices.old.items ++ splice ∷ []) }
+{
     splices.push(splice)?;
     Ok(())
 }
 
 /// Sorts `splices` by their ranges. An insertion comes before what begins at its position, and the deeper one of two
 /// comes first.
-fn sort(splices: &mut Vec<Splice>) -> Result<(), AllocError> {
+fn sort(splices: &mut Vec<Splice>) -> Result<(), AllocError>
+    ensures { IsPermutation splices.old.items splices.new.items }
+{
     splices.sort_by_key(|splice| (splice.begin, splice.end, u64::MAX - splice.depth))
 }
 

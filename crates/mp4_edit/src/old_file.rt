@@ -1,11 +1,13 @@
 //! The boxes of the file that is edited, and its tables of offsets.
 
-ghost use Rattle.std.specs.Prelude.{◌≡◌, All, IfOk, IfSome, OnOk};
-ghost use Rattle.mp4_edit.specs.Edited.{IsUntouched};
+ghost use Rattle.std.specs.Prelude.{◌≡◌, ◌+◌, [], All, IfNone, IfOk, IfSome, IsTrue, OnOk, false, filter, not};
+ghost use Rattle.mp4_edit.specs.Edited.{IsUntouched, is_beside, is_sample_box, is_spliced};
 ghost use Rattle.mp4_edit.specs.OldFiles.{IsOldFile};
+ghost use Rattle.mp4_faststart.specs.Offsets.{at_most};
 ghost use Rattle.mp4_faststart.specs.Places.{first_box};
 ghost use Rattle.mp4_frame.specs.declared.codes.TheConstants as known;
 ghost use Rattle.mp4_walk.specs.FileBoxes.{boxes_of};
+ghost use Rattle.mp4_walk.specs.Source.{piece};
 
 use crate::path_text::text_of;
 use crate::refusal::{Refusal, Stop};
@@ -34,7 +36,9 @@ pub struct OldFile {
 }
 
 /// Returns whether the byte at position `at` is in one of `splices`.
-pub fn is_spliced(splices: &[Splice], at: u64) -> bool {
+pub fn is_spliced(splices: &[Splice], at: u64) -> bool
+    ensures { result ≡ is_spliced splices.now at }
+{
     for splice in splices {
         if splice.begin <= at && at < splice.end {
             return true;
@@ -44,12 +48,16 @@ pub fn is_spliced(splices: &[Splice], at: u64) -> bool {
 }
 
 /// Returns whether `found` lists samples: the tables of a track, or a fragment.
-fn is_sample_box(found: &TreeBox) -> bool {
+fn is_sample_box(found: &TreeBox) -> bool
+    ensures { result ≡ is_sample_box found.now }
+{
     found.has_code(FourCC::from(codes::STBL)) || found.has_code(FourCC::from(codes::MOOF))
 }
 
 /// Returns whether `splice` is before the box or after it, and not in it.
-fn is_beside(found: &TreeBox, splice: &Splice) -> bool {
+fn is_beside(found: &TreeBox, splice: &Splice) -> bool
+    ensures { result ≡ is_beside found.now splice.now }
+{
     let end = found.position.saturating_add(found.length);
     splice.end <= found.position
         || end < splice.begin
@@ -57,7 +65,9 @@ fn is_beside(found: &TreeBox, splice: &Splice) -> bool {
 }
 
 /// Returns whether one of `splices` touches the box.
-fn is_touched(found: &TreeBox, splices: &[Splice]) -> bool {
+fn is_touched(found: &TreeBox, splices: &[Splice]) -> bool
+    ensures { result ≡ false → All (λ s. IsTrue (is_beside found.now s)) splices.now }
+{
     for splice in splices {
         if !is_beside(found, splice) {
             return true;
@@ -179,7 +189,10 @@ fn kept_tables(
     tables: Vec<OffsetTable>,
     begin: u64,
     splices: &[Splice],
-) -> Result<Vec<OffsetTable>, AllocError> {
+) -> Result<Vec<OffsetTable>, AllocError>
+    ensures { IfOk result (λ kept. kept.items
+        ≡ filter (λ t. not (is_spliced splices.now (at_most (begin + t.begin)))) tables.items) }
+{
     let mut kept = Vec::new(alloc);
     for table in &tables {
         if !is_spliced(splices, begin.saturating_add(table.begin as u64)) {
@@ -195,7 +208,10 @@ fn movie_bytes<S: Source>(
     walk: &mut BoxWalk<S>,
     movie: &Option<TreeBox>,
 ) -> Result<Vec<u8>, Stop>
-    ensures { walk.new ≡ walk.old }
+    ensures bytes { IfSome movie.now (λ x. IfSome walk.old.bytes
+        (λ B. IfOk result (λ bytes. bytes.items ≡ piece B x.position x.length))) }
+    ensures none { IfNone movie.now (IfOk result (λ bytes. bytes.items ≡ [])) }
+    ensures kept { walk.new ≡ walk.old }
 {
     match movie {
         Some(found) => Ok(walk.read_box(alloc, found)?),

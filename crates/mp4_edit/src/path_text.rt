@@ -7,7 +7,7 @@ use std::alloc::{AllocError, Global};
 /// Adds `code` to `text` as a path has it: a character for each byte, or its number if that is not printed.
 fn push_code(text: &mut String, code: FourCC) -> Result<(), AllocError> {
     for byte in code.value {
-        if (0x20..0x7f).contains(&byte) || byte >= 0xa0 {
+        if 0x20 <= byte && byte < 0x7f || byte >= 0xa0 {
             text.push(char::from(byte))?;
         } else {
             write!(text, "\\x{byte:02x}")?;

@@ -1,8 +1,11 @@
 //! The plan of an edited file. No clause describes the changes besides the splices, since `edited` checks them.
 
-ghost use Rattle.std.specs.Prelude.{◌≡◌, ◌++◌, ℕ, List, length, IfOk, OnOk};
-ghost use Rattle.mp4_edit.specs.Splices.{spliced};
+ghost use Rattle.std.specs.Prelude.{◌≡◌, ◌-◌, ◌++◌, ℕ, List, length, IfOk, IfSome, OnOk};
+ghost use Rattle.std.specs.List.{list_any};
+ghost use Rattle.mp4_edit.specs.Splices.{is_inside, spliced};
+ghost use Rattle.mp4_frame.specs.Bytes.{number};
 ghost use Rattle.mp4_pieces.specs.Pieces.{bytes_of, spelled};
+ghost use Rattle.mp4_walk.specs.Source.{piece};
 
 use crate::old_file::{OldFile, is_spliced};
 use crate::path_text::text_of;
@@ -28,7 +31,10 @@ fn push(plan: &mut Plan, piece: Piece) -> Result<(), Stop>
 }
 
 /// Adds to `plan` the bytes of the old file from position `at` on up to `splice`, and then its bytes.
-fn push_splice(alloc: Global, plan: &mut Plan, at: u64, splice: &Splice) -> Result<(), Stop> {
+fn push_splice(alloc: Global, plan: &mut Plan, at: u64, splice: &Splice) -> Result<(), Stop>
+    ensures { OnOk result ((B : List ℕ) → spelled B plan.new
+        ≡ spelled B plan.old ++ piece B at (splice.now.begin - at) ++ splice.now.bytes.items) }
+{
     push(
         plan,
         Piece::Old {
@@ -62,7 +68,9 @@ pub fn plan_spliced(alloc: Global, size: u64, splices: &[Splice]) -> Result<Plan
 }
 
 /// Returns whether one of `splices` is in the box.
-pub fn is_around(found: &TreeBox, splices: &[Splice]) -> bool {
+pub fn is_around(found: &TreeBox, splices: &[Splice]) -> bool
+    ensures { result ≡ list_any (is_inside found.now) splices.now }
+{
     for splice in splices {
         if splice.is_inside(found) {
             return true;
@@ -73,7 +81,8 @@ pub fn is_around(found: &TreeBox, splices: &[Splice]) -> bool {
 
 /// Returns the number of 32 bits at position `at`.
 pub fn short_at<S: Source>(source: &mut S, at: u64) -> io::Result<u32>
-    ensures { S.all source.new ≡ S.all source.old }
+    ensures value { IfSome (S.all source.old) (λ B. IfOk result (λ n. n ≡ number B at 4)) }
+    ensures keeps { S.all source.new ≡ S.all source.old }
 {
     let mut bytes = [0; 4];
     source.read_at(at, &mut bytes)?;

@@ -131,8 +131,8 @@ fn check_handler<S: Source>(
     }))
 }
 
-/// Adds the edits that put `tags` into the `ilst` of the file: each replaces the first item with its key, or comes after
-/// the other items.
+/// Adds the edits that put `tags` into the `ilst` of the file: each replaces the first item with its key, or comes
+/// after the other items.
 fn set_in_list<S: Source>(
     alloc: Global,
     file: &Opened<S>,

@@ -26,7 +26,7 @@ pub fn packed_language(text: &str) -> Option<u16> {
     }
     for byte in bytes {
         let letter = *byte;
-        if !(b'a'..=b'z').contains(&letter) {
+        if letter < b'a' || letter > b'z' {
             return None;
         }
         packed = (packed & 0x03ff) << 5 | u16::from(letter - 0x60);
@@ -82,7 +82,8 @@ fn matrix(degrees: u32, width: u32, height: u32) -> [u32; 9] {
     }
 }
 
-/// Adds the edit that turns the pictures of the track with this track_ID clockwise by `degrees`, whatever its matrix was.
+/// Adds the edit that turns the pictures of the track with this track_ID clockwise by `degrees`, whatever its matrix
+/// was.
 pub fn rotate<S: Source>(
     alloc: Global,
     file: &mut Opened<S>,

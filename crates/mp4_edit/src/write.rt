@@ -123,8 +123,8 @@ pub fn write_edited<S: Source, T: Source, W: Write>(
     }
 }
 
-/// Returns the number of whole boxes that `bytes` are, one after the other, each with a size. Returns `None` if they are
-/// something else.
+/// Returns the number of whole boxes that `bytes` are, one after the other, each with a size. Returns `None` if they
+/// are something else.
 pub fn are_boxes(alloc: Global, bytes: &[u8]) -> io::Result<Option<u64>> {
     let mut walk = BoxWalk::new(alloc, bytes)?;
     let mut count: u64 = 0;

@@ -59,8 +59,8 @@ fn are_long_moved<F: Shift>(old: &[u8], new: &[u8], shift: &F) -> bool
     true
 }
 
-/// Returns whether the offsets in `new`, of 64 bits if they are wide and else of 32, are those that `shift` puts in place
-/// of those in `old`.
+/// Returns whether the offsets in `new`, of 64 bits if they are wide and else of 32, are those that `shift` puts in
+/// place of those in `old`.
 pub fn are_moved_by<F: Shift>(is_wide: bool, old: &[u8], new: &[u8], shift: &F) -> bool
     requires { length new.now ≡ length old.now }
     ensures { IsTrue result → AreMovedBy is_wide (F.after shift.now) old.now new.now }

@@ -7,7 +7,8 @@ use mp4_walk::{BoxWalk, Source, TreeBox};
 use std::alloc::Global;
 use std::io;
 
-/// An obstacle that keeps boxes from being moved, such as a movie box. Positions are in bytes from the front of the file.
+/// An obstacle that keeps boxes from being moved, such as a movie box. Positions are in bytes from the front of the
+/// file.
 #[derive(Clone, Copy, Debug, PartialEq, Eq, thiserror::Error)]
 pub enum Obstacle {
     /// No whole box begins at a position of the top level.
@@ -67,9 +68,9 @@ pub struct Side {
     pub is_in_movie: bool,
 }
 
-/// Returns whether boxes with `code` at `side` have offsets that are not shifted: they count from the front of the file,
-/// or are in a compressed movie, or lead from before something that is moved to what is after it. Only in the `moov` is a
-/// `saio` shifted.
+/// Returns whether boxes with `code` at `side` have offsets that are not shifted: they count from the front of the
+/// file, or are in a compressed movie, or lead from before something that is moved to what is after it. Only in the
+/// `moov` is a `saio` shifted.
 fn has_offsets(code: u32, side: Side) -> bool {
     match code {
         codes::CMOV | codes::ILOC | codes::TFRA => side.moves,

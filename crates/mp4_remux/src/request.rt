@@ -57,8 +57,8 @@ impl From<AllocError> for Misuse {
 }
 
 /// What no edit can do, and what holds of a dropped track: the end of the help of `edit`.
-const AFTER: &str = "A PATH is codes and numbers, such as moov/trak[1]/udta; / is the file. Paths are those of IN, whatever the
-order of the options. TRACK is a track_ID.
+const AFTER: &str = "A PATH is codes and numbers, such as moov/trak[1]/udta; / is the file. Paths are those of IN, whatever
+the order of the options. TRACK is a track_ID.
 
 Every sample of every track keeps its bytes, times, flags and description, and every other byte stays the same, except
 for the named boxes, the sizes of the boxes around them, and offsets, which lead to the same bytes as before. So no

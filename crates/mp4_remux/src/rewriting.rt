@@ -189,8 +189,8 @@ fn put_in_place(
     fs::rename(rt, partial, target)
 }
 
-/// Writes the new file to the path `target`, first into a file of another name. The new file gets the permissions of the
-/// file that is read.
+/// Writes the new file to the path `target`, first into a file of another name. The new file gets the permissions of
+/// the file that is read.
 fn write_to(
     rt: &HostRuntime,
     task: Task,
@@ -313,8 +313,8 @@ fn misuse(rt: &HostRuntime, what: &str) -> u8 {
     MISUSE
 }
 
-/// Carries out `task` with the file `from` and writes the file `to`, or leaves `to` as it was. If `to` is `-`, writes to
-/// the standard output. Returns the exit status: 1 if `from` is refused, and 2 if `from` is `-`.
+/// Carries out `task` with the file `from` and writes the file `to`, or leaves `to` as it was. If `to` is `-`, writes
+/// to the standard output. Returns the exit status: 1 if `from` is refused, and 2 if `from` is `-`.
 pub fn rewrite(rt: &HostRuntime, task: Task, from: &str, to: &str) -> Result<u8, Failure> {
     if from == "-" {
         return Ok(misuse(
