@@ -12,6 +12,7 @@ use crate::old_file::read_old;
 use crate::planning::{changes_of, plan_spliced};
 use crate::refusal::{Refusal, Stop};
 use crate::splice::Splice;
+use mp4_frame::u32_at;
 use mp4_io::Output;
 use mp4_pieces::{PieceSource, Plan};
 use mp4_rewrite::write_checked;
@@ -123,6 +124,12 @@ pub fn write_edited<S: Source, T: Source, W: Write>(
     }
 }
 
+/// Returns whether the box at position `at` of `bytes` has a size (ISO/IEC 14496-12, 4.2).
+fn has_size(bytes: &[u8], at: u64) -> bool {
+    let length = bytes.len() as u64;
+    at <= length && length - at >= 4 && u32_at(bytes, at as usize) != 0
+}
+
 /// Returns the number of whole boxes that `bytes` are, one after the other, each with a size. Returns `None` if they
 /// are something else.
 pub fn are_boxes(alloc: Global, bytes: &[u8]) -> io::Result<Option<u64>> {
@@ -130,11 +137,7 @@ pub fn are_boxes(alloc: Global, bytes: &[u8]) -> io::Result<Option<u64>> {
     let mut count: u64 = 0;
     while let Some(found) = walk.next()? {
         if found.depth == 0 {
-            let has_size = match bytes.get(found.position as usize..) {
-                Some(rest) => rest.iter().take(4).any(|byte| *byte != 0),
-                None => false,
-            };
-            if !found.is_whole() || !has_size {
+            if !found.is_whole() || !has_size(bytes, found.position) {
                 return Ok(None);
             }
             count = count.saturating_add(1);

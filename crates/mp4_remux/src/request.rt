@@ -210,7 +210,8 @@ fn add_all(
     let Some(values) = matches.get_strs(name) else {
         return Ok(());
     };
-    for value in values {
+    for item in values {
+        let value: &str = *item;
         if let Some(shown) = unreadable(value) {
             return Err(Misuse::NotText(String::from_str(alloc, shown)?));
         }
