@@ -74,7 +74,8 @@ class Interrupted(unittest.TestCase):
             self.compare("mp4_inspect", words, data)
 
     def test_mp4remux(self):
-        for words in (["faststart", "in.mp4", "out.mp4"], ["faststart", "in.mp4", "-"]):
+        for words in (["faststart", "in.mp4", "out.mp4"], ["faststart", "in.mp4", "-"],
+                      ["edit", "in.mp4", "out.mp4", "--title", "x"], ["edit", "in.mp4", "-", "--title", "x"]):
             self.compare("mp4_remux", words, self.plain)
 
 

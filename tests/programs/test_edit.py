@@ -372,7 +372,7 @@ def shortcuts(runs, random_):
             model.write("moov/trak/tkhd", matrix_at, be(4, a, b, 0, c, d, 0, x, y, 0x40000000))
             runs.edits(f"turned by {degrees}", data, model.done(), "--rotate", f"1={degrees}")
         model = Model(data)
-        model.write("moov/trak/mdia/mdhd", language_at, be(2, 0x10B2))
+        model.write("moov/trak/mdia/mdhd", language_at, be(2, 4 << 10 | 5 << 5 | 2))
         runs.edits("another language", data, model.done(), "--language", "1=deb")
         for option, flags in (("--disable", 6), ("--enable", 7)):
             model = Model(data)
