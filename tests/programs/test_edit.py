@@ -571,6 +571,9 @@ def refused(runs, random_):
         model_.write("moov/trak/tkhd", 3, b"\6")
         runs.edits(f"{name} where nothing moves", data, model_.done(), "--disable", "1")
     data = fragmented()
+    model_ = Model(data)
+    model_.insert("/", box(b"free", b"new"))
+    runs.edits("a box at the end moves nothing", data, model_.done(), "--insert", "/=new.box")
     place = data.index(b"moof") - 4
     fragment = "no edit may touch a fragment"
     for words in (("--remove", "moof"), ("--remove", "moof/mfhd"), ("--insert", "moof/traf=new.box")):

@@ -116,11 +116,12 @@ fn second_movie(boxes: &[TreeBox]) -> Option<u64> {
     None
 }
 
-/// Returns the position of the last of `splices` that moves what is after it, if there is one.
-fn last_move(splices: &[Splice]) -> Option<u64> {
+/// Returns the position of the last of `splices` that moves what is after it, or takes it away, if there is one. What is
+/// inserted at the end of the file, which has this length, moves nothing.
+fn last_move(splices: &[Splice], length: u64) -> Option<u64> {
     let mut last = None;
     for splice in splices {
-        if !splice.is_even() {
+        if !splice.is_even() && (splice.removed() > 0 || splice.end < length) {
             last = Some(splice.begin);
         }
     }
@@ -164,7 +165,7 @@ fn check_obstacles<S: Source>(
     if let Some(position) = second_movie(boxes) {
         return Err(Stop::Refused(Refusal::TwoMovies(position)));
     }
-    let moves = last_move(splices);
+    let moves = last_move(splices, walk.length());
     for found in boxes {
         if let Some(obstacle) = obstacle_at(alloc, walk, found, side_of(found, movie, moves))? {
             return Err(Stop::Refused(Refusal::Obstacle(obstacle)));
