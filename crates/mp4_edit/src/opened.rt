@@ -1,5 +1,7 @@
 //! A file that shortcuts look at.
 
+ghost use Rattle.std.specs.Prelude.{◌≤◌, IfOk, length};
+
 use crate::naming::box_at;
 use crate::path_text::path_text;
 use crate::refusal::{Refusal, Stop};
@@ -67,7 +69,9 @@ impl<S: Source> Opened<S> {
         path: &BoxPath,
         found: &TreeBox,
         count: u64,
-    ) -> Result<Vec<u8>, Stop> {
+    ) -> Result<Vec<u8>, Stop>
+        ensures { IfOk result (λ bytes. count ≤ length bytes.items) }
+    {
         let front = TreeBox {
             length: found.header_length.saturating_add(count),
             ..*found

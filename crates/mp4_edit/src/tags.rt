@@ -237,7 +237,7 @@ fn remove_texts<S: Source>(
         ];
         let path = path_of(alloc, &parts)?;
         add(edits, Edit::Remove(path))?;
-        removed += 1;
+        removed = removed.saturating_add(1);
     }
     Ok(())
 }

@@ -182,7 +182,7 @@ fn drop_defaults<S: Source>(
                 if removed == MANY {
                     return Err(Stop::Refused(Refusal::Many(found.position)));
                 }
-                removed += 1;
+                removed = removed.saturating_add(1);
                 let parts = [(codes::MOOV, 0), (codes::MVEX, 0), (codes::TREX, before)];
                 let path = path_of(alloc, &parts)?;
                 add(edits, Edit::Remove(path))?;
