@@ -13,8 +13,7 @@ ghost use Rattle.mp4_pieces.specs.Pieces.{spelled};
 ghost use Rattle.mp4_walk.specs.FileBoxes.{boxes_of};
 
 use crate::alike::are_alike_except;
-use crate::naming::check_order;
-use crate::old_file::{OldFile, check_untouched};
+use crate::old_file::OldFile;
 use crate::planning::{is_around, plan_spliced, short_at};
 use crate::refusal::{Refusal, Stop};
 use crate::splice::{Shifts, Splice, length_after, place};
@@ -245,18 +244,9 @@ fn check_offsets<T: Source>(
     Ok(())
 }
 
-/// Checks that `splices` are in order, and that none of them touches a sample table or a fragment.
-pub fn check_places(alloc: Global, file: &OldFile, splices: &[Splice]) -> Result<(), Stop>
-    ensures order { OnOk result (AreInOrder file.now.length splices.now) }
-    ensures untouched { OnOk result (All (IsUntouched splices.now) file.now.boxes.items) }
-{
-    check_order(splices, file.length)?;
-    check_untouched(alloc, &file.boxes, splices)
-}
-
 /// Checks that the new file, which `plan` spells out over `old`, is the old one after `splices`, and that nothing else
 /// is changed except for sizes and offsets, which are as they have to be. `file` is what is read of the old file.
-/// Relies on `check_places`.
+/// `read_old` has checked where the splices are.
 pub fn check_edited<S: Source, T: Source>(
     alloc: Global,
     old: &mut S,

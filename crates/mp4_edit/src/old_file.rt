@@ -3,12 +3,14 @@
 ghost use Rattle.std.specs.Prelude.{◌≡◌, ◌+◌, [], All, IfNone, IfOk, IfSome, IsTrue, OnOk, false, filter, not};
 ghost use Rattle.mp4_edit.specs.Edited.{IsUntouched, is_beside, is_sample_box, is_spliced};
 ghost use Rattle.mp4_edit.specs.OldFiles.{IsOldFile};
+ghost use Rattle.mp4_edit.specs.Splices.{AreInOrder};
 ghost use Rattle.mp4_faststart.specs.Offsets.{at_most};
 ghost use Rattle.mp4_faststart.specs.Places.{first_box};
 ghost use Rattle.mp4_frame.specs.declared.codes.TheConstants as known;
 ghost use Rattle.mp4_walk.specs.FileBoxes.{boxes_of};
 ghost use Rattle.mp4_walk.specs.Source.{piece};
 
+use crate::naming::check_order;
 use crate::path_text::text_of;
 use crate::refusal::{Refusal, Stop};
 use crate::splice::Splice;
@@ -90,7 +92,7 @@ fn touched(alloc: Global, boxes: &[TreeBox], index: usize, found: &TreeBox) -> S
 }
 
 /// Checks that none of `splices` touches a sample table or a fragment.
-pub fn check_untouched(alloc: Global, boxes: &[TreeBox], splices: &[Splice]) -> Result<(), Stop>
+fn check_untouched(alloc: Global, boxes: &[TreeBox], splices: &[Splice]) -> Result<(), Stop>
     ensures { OnOk result (All (IsUntouched splices.now) boxes.now) }
 {
     for index in 0..boxes.len() {
@@ -116,8 +118,8 @@ fn second_movie(boxes: &[TreeBox]) -> Option<u64> {
     None
 }
 
-/// Returns the position of the last of `splices` that moves what is after it, or takes it away, if there is one. What is
-/// inserted at the end of the file, which has this length, moves nothing.
+/// Returns the position of the last of `splices` that moves what is after it, or takes it away, if there is one. What
+/// is inserted at the end of the file, which has this length, moves nothing.
 fn last_move(splices: &[Splice], length: u64) -> Option<u64> {
     let mut last = None;
     for splice in splices {
@@ -228,7 +230,8 @@ fn boxes_in(alloc: Global, file: &[u8]) -> Result<Vec<TreeBox>, Stop>
     Ok(walk.rest(alloc)?)
 }
 
-/// Reads what the planner and the check need of a file, if none of its boxes is an obstacle to `splices`.
+/// Reads what the planner and the check need of a file, if `splices` are in order, none of them touches a sample table
+/// or a fragment, and no box is an obstacle to their moves.
 pub fn read_old<S: Source>(
     alloc: Global,
     source: S,
@@ -236,10 +239,14 @@ pub fn read_old<S: Source>(
 ) -> Result<(S, OldFile), Stop>
     ensures source { IfOk result (λ r. S.all r.0 ≡ S.all source) }
     ensures file { IfOk result (λ r. IfSome (S.all source) (λ B. IsOldFile B splices.now r.1)) }
+    ensures order { IfOk result (λ r. AreInOrder r.1.length splices.now) }
+    ensures untouched { IfOk result (λ r. All (IsUntouched splices.now) r.1.boxes.items) }
 {
     let movie = Movie::open(alloc, source)?;
     let (mut walk, boxes) = movie.into_parts();
     let length = walk.length();
+    check_order(splices, length)?;
+    check_untouched(alloc, &boxes, splices)?;
     let found = first_movie(&boxes);
     check_obstacles(alloc, &mut walk, &boxes, &found, splices)?;
     let begin = match &found {

@@ -6,7 +6,7 @@ ghost use Rattle.mp4_edit.specs.Written.{WroteEdited, WroteSpliced};
 ghost use Rattle.mp4_pieces.specs.NewFiles.{bytes_by};
 
 use crate::edit::Edit;
-use crate::edited::{check_edited, check_places};
+use crate::edited::check_edited;
 use crate::naming::{Named, named};
 use crate::old_file::read_old;
 use crate::planning::{changes_of, plan_spliced};
@@ -75,7 +75,6 @@ fn write_spliced<S: Source, T: Source, W: Write>(
         → WroteSpliced B splices.now (W.contents output.old.inner) (W.contents output.new.inner) result) }
 {
     let (mut source, file) = read_old(alloc, source, splices)?;
-    check_places(alloc, &file, splices)?;
     let changes = changes_of(alloc, &mut source, &file, splices)?;
     let plan = plan_spliced(alloc, file.length, &changes)?;
     let twin = plan_spliced(alloc, file.length, &changes)?;
