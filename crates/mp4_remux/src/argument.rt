@@ -67,7 +67,10 @@ const TRACK: &str = "expected a track_ID, such as 1";
 const TAG: &str = "expected KEY=VALUE with a key of four characters, such as \u{a9}alb=Blue";
 
 /// Returns what is before the first `=` of `text`, and what is after it.
-fn halves(text: &str, form: &'static str) -> Result<(&str, &str), ArgumentError> {
+fn halves<'a>(
+    text: &'a str,
+    form: &'static str,
+) -> Result<(&'a str, &'a str), ArgumentError> {
     match text.split_once('=') {
         Some(parts) => Ok(parts),
         None => Err(ArgumentError::Form(form)),
