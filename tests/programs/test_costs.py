@@ -3,8 +3,9 @@
 has to write more than half of it. It may have twice as many addresses as the table has memory, since a vector that
 grows has two copies for a moment.
 
-Also measures the processor time of each command over movies with many tracks and fragments. It has to be linear in
-their number. The times of `qt-faststart` are printed beside those of `faststart`, if it is on the machine.
+Also measures the processor time of each command, and of those of `mp4remux`, over movies with many tracks and
+fragments. It has to be linear in their number. The times of `qt-faststart` are printed beside those of `faststart`, if
+it is on the machine.
 
 Setting: LENGTH, the approximate number of bytes of a file (100,000)."""
 
@@ -26,7 +27,9 @@ SMALL_RUN = 8192
 # The numbers of tracks of movies. Between the last two the time may grow by GROWTH, twice as much as the tracks, and by
 # SPARE seconds, since short runs differ. A run over a movie ends after MOST seconds.
 TRACKS, GROWTH, SPARE, MOST = (100, 400, 1600), 8, 0.1, 30
-COMMANDS = [[], ["--json"], ["check"], ["samples", "--csv"], ["faststart"]]
+COMMANDS = [[], ["--json"], ["check"], ["samples", "--csv"], ["faststart"], ["edit", "--title=x"],
+            ["edit", "--drop-track=1"]]
+REMUX = ("faststart", "edit")
 
 
 def long_paths(content, boxes):
@@ -144,8 +147,9 @@ class Costs(unittest.TestCase):
 class Times(unittest.TestCase):
     def compare(self, make, words):
         """Measures a command over the movies of `make`, and prints the times."""
-        program = built("mp4_inspect")
-        took = times(make, lambda path, out: [program, *words, "--", path, *[out] * (words == ["faststart"])])
+        is_remux = words[:1] and words[0] in REMUX
+        program = built("mp4_remux" if is_remux else "mp4_inspect")
+        took = times(make, lambda path, out: [program, *words, "--", path, *[out] * bool(is_remux)])
         self.assertLess(took[-1], GROWTH * took[-2] + SPARE, said(words, make, took))
         print(f"costs: {said(words, make, took)}")
         if words == ["faststart"] and shutil.which("qt-faststart"):
@@ -160,7 +164,8 @@ def time_of(make, words):
 for make_ in (tracks, fragments):
     for words_ in COMMANDS:
         if make_ is not fragments or words_ != ["faststart"]:
-            setattr(Times, f"test_{(words_ or ['tree'])[0].strip('-')}_of_{make_.__name__}", time_of(make_, words_))
+            name_ = "_".join(it.strip("-").partition("=")[0].replace("-", "_") for it in words_ or ["tree"])
+            setattr(Times, f"test_{name_}_of_{make_.__name__}", time_of(make_, words_))
 
 
 if __name__ == "__main__":

@@ -1,5 +1,6 @@
 pub mod Moved
-pub mod Kept
+pub mod Places
+pub mod Offsets
 pub mod Movie
 pub mod Written
 pub mod Laws

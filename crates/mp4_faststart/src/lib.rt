@@ -1,20 +1,24 @@
-//! Moves the `moov` of a file before its media data, so that a reader gets it first. Shifts the chunk offsets, and
-//! keeps the bytes of each sample.
+//! Moves the `moov` of a file before its media data, so that a reader gets it first. Shifts the offsets in it, and
+//! keeps every sample of every track.
 #![tactic(auto)]
 
+mod held;
 pub mod laws;
 mod movement;
-mod movie;
 mod obstacle;
+mod offsets;
 mod patch;
 mod place;
+mod planning;
 mod refusal;
-mod samples;
+mod shift;
 mod write;
 
+pub use held::are_moved_by;
 pub use movement::Move;
-pub use movie::moved_movie;
-pub use obstacle::Obstacle;
-pub use refusal::{Refusal, TrackPlace};
-pub use samples::keeps_samples;
+pub use obstacle::{Obstacle, Side, obstacle_at};
+pub use offsets::{OffsetTable, is_table, table_in, tables_of};
+pub use patch::shift_offsets;
+pub use refusal::{Refusal, Stop};
+pub use shift::Shift;
 pub use write::write_fast_start;

@@ -1,5 +1,7 @@
 //! The move of a movie box.
 
+use crate::shift::Shift;
+
 /// The move of the `moov` of a file, the bytes from `begin` to `end`, to the position `insert` before it. Positions are
 /// in bytes from the front of the file.
 #[derive(Clone, Copy, Debug, PartialEq, Eq)]
@@ -13,10 +15,11 @@ pub struct Move {
 }
 
 impl Move {
-    ghost use Rattle.std.specs.Prelude.{◌≡◌, ◌^◌, ◌≤◌, ◌↔◌, IsTrue, MatchOption};
-    ghost use Rattle.mp4_faststart.specs.Moved.{moved, IsInOnePart};
+    ghost use Rattle.std.specs.Prelude.{◌≡◌, ◌^◌, ◌≤◌, MatchOption};
+    ghost use Rattle.mp4_faststart.specs.Moved.{moved, offset_after};
 
-    /// Returns the position after the move of the byte at `offset`, or `None` if that is past 2^64 - 1.
+    /// Returns the position after the move of the byte at `offset`, or `None` if that is past 2^64 - 1. The byte is not
+    /// in the `moov`.
     pub fn moved(&self, offset: u64) -> Option<u64>
         ensures { MatchOption result (2 ^ 64 ≤ moved self.now offset) (λ o. o ≡ moved self.now offset) }
     {
@@ -27,14 +30,25 @@ impl Move {
         }
     }
 
-    /// Returns whether `size` bytes at `offset` stay one after the other: they are on one side of each place where the
-    /// file is cut, and not in the `moov`.
-    pub fn keeps(&self, offset: u64, size: u32) -> bool
-        ensures { IsTrue result ↔ IsInOnePart self.now offset size }
+    /// Returns the offset after the move in place of `offset`, or `None` if that is past 2^64 - 1. An offset into the
+    /// `moov` keeps its distance from the beginning of the `moov`, and any other leads to the same byte.
+    pub fn offset_after(&self, offset: u64) -> Option<u64>
+        ensures { MatchOption result (2 ^ 64 ≤ offset_after self.now offset) (λ o. o ≡ offset_after self.now offset) }
     {
-        let end = u128::from(offset) + u128::from(size);
-        end <= u128::from(self.insert)
-            || (self.insert <= offset && end <= u128::from(self.begin))
-            || self.end <= offset
+        if self.begin <= offset && offset < self.end {
+            (offset - self.begin).checked_add(self.insert)
+        } else {
+            self.moved(offset)
+        }
+    }
+}
+
+impl Shift for Move {
+    ghost use Rattle.mp4_faststart.specs.Moved.{after};
+
+    ghost after = { after };
+
+    fn shifted(&self, offset: u64) -> Option<u64> {
+        self.offset_after(offset)
     }
 }

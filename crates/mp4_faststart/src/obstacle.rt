@@ -1,4 +1,4 @@
-//! The obstacles that keep a movie box from being moved.
+//! The obstacles that keep boxes from being moved.
 
 ghost use Rattle.std.specs.Prelude.{◌≡◌};
 
@@ -7,7 +7,8 @@ use mp4_walk::{BoxWalk, Source, TreeBox};
 use std::alloc::Global;
 use std::io;
 
-/// An obstacle that keeps a movie box from being moved. Positions are in bytes from the front of the file.
+/// An obstacle that keeps boxes from being moved, such as a movie box. Positions are in bytes from the front of the
+/// file.
 #[derive(Clone, Copy, Debug, PartialEq, Eq, thiserror::Error)]
 pub enum Obstacle {
     /// No whole box begins at a position of the top level.
@@ -36,6 +37,10 @@ pub enum Obstacle {
 const BASE_DATA_OFFSET: u32 = 0x00_0001;
 /// The flags of an entry of `dref` whose media data are in the same file (8.7.2).
 const SELF_CONTAINED: u32 = 0x00_0001;
+/// The code of a reference to a file by a name (8.7.2).
+const URN: u32 = 0x7572_6e20;
+/// The code of a reference to a file by an alias, which QuickTime has.
+const ALIS: u32 = 0x616c_6973;
 
 /// Returns the flags of `found` (4.2), or 0 if it has no room for them.
 fn flags_of<S: Source>(alloc: Global, tree: &mut BoxWalk<S>, found: &TreeBox) -> io::Result<u32>
@@ -52,22 +57,41 @@ fn flags_of<S: Source>(alloc: Global, tree: &mut BoxWalk<S>, found: &TreeBox) ->
     Ok(u32_at(&bytes, 0) & 0x00ff_ffff)
 }
 
-/// Returns whether boxes with `code` have offsets that are not shifted: they count from the front of the file, or are
-/// in a compressed movie, or lead from before the `moov` to what is after it.
-fn has_offsets(code: u32, is_before_movie: bool) -> bool {
+/// The place of a box by what is moved.
+#[derive(Clone, Copy, Debug, PartialEq, Eq)]
+pub struct Side {
+    /// Something is moved.
+    pub moves: bool,
+    /// The box is before something that is moved.
+    pub is_before: bool,
+    /// The box is in the `moov`.
+    pub is_in_movie: bool,
+}
+
+/// Returns whether boxes with `code` at `side` have offsets that are not shifted: they count from the front of the
+/// file, or are in a compressed movie, or lead from before something that is moved to what is after it. Only in the
+/// `moov` is a `saio` shifted.
+fn has_offsets(code: u32, side: Side) -> bool {
     match code {
-        codes::CMOV | codes::ILOC | codes::SAIO | codes::TFRA => true,
-        codes::SIDX | codes::MOOF => is_before_movie,
+        codes::CMOV | codes::ILOC | codes::TFRA => side.moves,
+        codes::SAIO => side.moves && !side.is_in_movie,
+        codes::SIDX | codes::MOOF => side.is_before,
         _ => false,
     }
 }
 
-/// Returns the obstacle that `found` is, if it is one.
+/// Returns whether an entry of `dref` with `code` says by its flags whether the media data are in the same file. The
+/// chunk offsets of another entry, such as `imdt`, may count from elsewhere.
+fn is_file_reference(code: u32) -> bool {
+    matches!(code, codes::URL | URN | ALIS)
+}
+
+/// Returns the obstacle to a move that `found`, at `side`, is, if it is one.
 pub fn obstacle_at<S: Source>(
     alloc: Global,
     tree: &mut BoxWalk<S>,
     found: &TreeBox,
-    is_before_movie: bool,
+    side: Side,
 ) -> io::Result<Option<Obstacle>>
     ensures { tree.new ≡ tree.old }
 {
@@ -78,13 +102,19 @@ pub fn obstacle_at<S: Source>(
     let Some(code) = found.code else {
         return Ok(None);
     };
-    if has_offsets(code.into(), is_before_movie) {
+    if has_offsets(code.into(), side) {
         return Ok(Some(Obstacle::Offsets { code, position }));
     }
-    if code == FourCC::from(codes::TFHD) && flags_of(alloc, tree, found)? & BASE_DATA_OFFSET != 0 {
+    if side.moves
+        && code == FourCC::from(codes::TFHD)
+        && flags_of(alloc, tree, found)? & BASE_DATA_OFFSET != 0
+    {
         return Ok(Some(Obstacle::Offsets { code, position }));
     }
-    if found.context.parent == codes::DREF && flags_of(alloc, tree, found)? & SELF_CONTAINED == 0 {
+    if found.context.parent == codes::DREF
+        && (!is_file_reference(code.into())
+            || flags_of(alloc, tree, found)? & SELF_CONTAINED == 0)
+    {
         return Ok(Some(Obstacle::OtherFile { code, position }));
     }
     Ok(None)

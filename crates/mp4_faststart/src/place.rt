@@ -1,106 +1,128 @@
 //! The place of the movie box of a file, and its new place.
 
 ghost use Rattle.std.specs.Prelude.{◌≡◌, length, IfOk, IfSome};
-ghost use Rattle.mp4_faststart.specs.Written.{IsPlaced};
+ghost use Rattle.mp4_faststart.specs.Places.{IsPlaced, first_box};
+ghost use Rattle.mp4_walk.specs.FileBoxes.{boxes_of};
 
 use crate::movement::Move;
-use crate::obstacle::{Obstacle, obstacle_at};
-use crate::refusal::Refusal;
+use crate::obstacle::{Obstacle, Side, obstacle_at};
+use crate::refusal::{Refusal, Stop};
 use mp4_frame::{FourCC, codes};
+use mp4_movie::{Movie, first_in};
 use mp4_walk::{BoxWalk, Source, TreeBox};
 use std::alloc::Global;
-use std::io;
 
-/// The boxes that a scan of a file has found.
-#[derive(Clone, Copy)]
-struct ScanState {
-    /// The movie box.
-    movie: Option<TreeBox>,
-    /// The position of the first media data.
-    media: Option<u64>,
-    /// The first obstacle.
-    obstacle: Option<Obstacle>,
-}
-
-/// Returns the first obstacle: that of `so_far`, or else `found` if it is one.
-fn obstacle_with<S: Source>(
-    alloc: Global,
-    tree: &mut BoxWalk<S>,
-    so_far: ScanState,
-    found: &TreeBox,
-) -> io::Result<Option<Obstacle>>
-    ensures { tree.new ≡ tree.old }
+/// Returns the first box of the top level with `code`.
+fn first_box(boxes: &[TreeBox], code: u32) -> Option<TreeBox>
+    ensures { result ≡ first_box code boxes.now }
 {
-    match so_far.obstacle {
-        Some(obstacle) => Ok(Some(obstacle)),
-        None => obstacle_at(alloc, tree, found, so_far.movie.is_none()),
+    match first_in(boxes, 0, code) {
+        Some(place) => Some(place.found),
+        None => None,
     }
 }
 
-/// Returns the state with one more box.
-fn found_with(
-    so_far: ScanState,
-    found: &TreeBox,
-    obstacle: Option<Obstacle>,
-) -> Result<ScanState, Refusal> {
-    let mut state = so_far;
-    state.obstacle = obstacle;
-    if found.depth == 0 && found.has_code(FourCC::from(codes::MOOV)) {
-        if state.movie.is_some() {
-            return Err(Refusal::TwoMovies(found.position));
-        }
-        state.movie = Some(*found);
-    }
-    if found.depth == 0 && found.has_code(FourCC::from(codes::MDAT)) && state.media.is_none() {
-        state.media = Some(found.position);
-    }
-    Ok(state)
-}
-
-/// Returns the move in a file of this length, or `None` if the movie box is before the media data.
-fn cut_by(state: ScanState, length: u64) -> Result<Option<Move>, Refusal>
-    ensures { IfOk result (λ shift. IfSome shift (IsPlaced length)) }
+/// Returns the move in a file of this length, or `None` if the `moov` is before the media data.
+fn cut_in(boxes: &[TreeBox], length: u64) -> Result<Option<Move>, Stop>
+    ensures { IfOk result (IsPlaced boxes.now length) }
 {
-    let Some(movie) = state.movie else {
-        return Err(Refusal::NoMovie);
+    let Some(movie) = first_box(boxes, codes::MOOV) else {
+        return Err(Stop::Refused(Refusal::NoMovie));
     };
-    let Some(insert) = state.media else {
-        return Err(Refusal::NoMediaData);
+    let Some(media) = first_box(boxes, codes::MDAT) else {
+        return Ok(None);
     };
-    if movie.position < insert {
+    if movie.position < media.position {
         return Ok(None);
     }
-    if let Some(obstacle) = state.obstacle {
-        return Err(Refusal::Obstacle(obstacle));
-    }
     if movie.position > length || movie.length > length - movie.position {
-        return Err(Refusal::Obstacle(Obstacle::NotWhole(movie.position)));
+        return Err(Stop::Refused(Refusal::Obstacle(Obstacle::NotWhole(movie.position))));
     }
     Ok(Some(Move {
-        insert,
+        insert: media.position,
         begin: movie.position,
         end: movie.position + movie.length,
     }))
 }
 
-/// Returns the source, its length, and the move of its movie box, or `None` if that is before the media data.
-pub fn placed<S: Source>(alloc: Global, source: S) -> Result<(S, u64, Option<Move>), Refusal>
+/// Returns the position of the second `moov` of the top level, if there is one.
+fn second_movie(boxes: &[TreeBox]) -> Option<u64> {
+    let mut has_one = false;
+    for found in boxes {
+        if found.depth == 0 && found.has_code(FourCC::from(codes::MOOV)) {
+            if has_one {
+                return Some(found.position);
+            }
+            has_one = true;
+        }
+    }
+    None
+}
+
+/// Returns the side of `found` by the move `shift`.
+fn side_of(found: &TreeBox, shift: Move) -> Side {
+    Side {
+        moves: true,
+        is_before: found.position < shift.begin,
+        is_in_movie: shift.begin <= found.position && found.position < shift.end,
+    }
+}
+
+/// Checks that none of `boxes` is an obstacle to the move `shift`.
+fn check_boxes<S: Source>(
+    alloc: Global,
+    walk: &mut BoxWalk<S>,
+    boxes: &[TreeBox],
+    shift: Move,
+) -> Result<(), Stop>
+    ensures { walk.new ≡ walk.old }
+{
+    for found in boxes {
+        if let Some(obstacle) = obstacle_at(alloc, walk, found, side_of(found, shift))? {
+            return Err(Stop::Refused(Refusal::Obstacle(obstacle)));
+        }
+    }
+    Ok(())
+}
+
+/// Checks that the file has one `moov`, and that there is no obstacle to the move, if there is one.
+fn check_move<S: Source>(
+    alloc: Global,
+    walk: &mut BoxWalk<S>,
+    boxes: &[TreeBox],
+    shift: Option<Move>,
+) -> Result<(), Stop>
+    ensures { walk.new ≡ walk.old }
+{
+    if let Some(position) = second_movie(boxes) {
+        return Err(Stop::Refused(Refusal::TwoMovies(position)));
+    }
+    match shift {
+        Some(shift) => check_boxes(alloc, walk, boxes, shift),
+        None => Ok(()),
+    }
+}
+
+/// Returns a walk over `source`, and its boxes.
+fn list_boxes<S: Source>(alloc: Global, source: S) -> Result<(BoxWalk<S>, Vec<TreeBox>), Stop>
+    ensures bytes { IfOk result (λ file. file.0.bytes ≡ S.all source) }
+    ensures boxes { IfSome (S.all source) (λ B. IfOk result (λ file. file.1.items ≡ boxes_of B)) }
+{
+    let movie = Movie::open(alloc, source)?;
+    Ok(movie.into_parts())
+}
+
+/// Returns the source, its length, and the move of its `moov`, or `None` if that is before the media data.
+pub fn placed<S: Source>(alloc: Global, source: S) -> Result<(S, u64, Option<Move>), Stop>
     ensures source { IfOk result (λ r. S.all r.0 ≡ S.all source) }
     ensures length { IfOk result (λ r. IfSome (S.all source) (λ B. r.1 ≡ length B)) }
-    ensures shift { IfOk result (λ r. IfSome r.2 (IsPlaced r.1)) }
+    ensures shift { IfOk result
+        (λ r. IfSome (S.all source) (λ B. IsPlaced (boxes_of B) (length B) r.2)) }
 {
     let mut source = source;
     let length = source.length()?;
-    let mut tree = BoxWalk::new(alloc, source)?;
-    let mut state = ScanState {
-        movie: None,
-        media: None,
-        obstacle: None,
-    };
-    while let Some(found) = tree.next()? {
-        let obstacle = obstacle_with(alloc, &mut tree, state, &found)?;
-        state = found_with(state, &found, obstacle)?;
-    }
-    let shift = cut_by(state, length)?;
-    Ok((tree.into_source(), length, shift))
+    let (mut walk, boxes) = list_boxes(alloc, source)?;
+    let shift = cut_in(&boxes, length)?;
+    check_move(alloc, &mut walk, &boxes, shift)?;
+    Ok((walk.into_source(), length, shift))
 }

@@ -1,178 +1,168 @@
 //! Writing a file whose movie box is moved.
 
-ghost use Rattle.std.specs.Prelude.{◌≡◌, ◌-◌, ◌<◌, ◌≤◌, Some, length, IfOk, OnOk, IfSome};
-ghost use Rattle.std.specs.Io.KnownBytes.{Appends};
-ghost use Rattle.mp4_walk.specs.Source.{piece};
-ghost use Rattle.mp4_faststart.specs.Moved.{moved_file};
-ghost use Rattle.mp4_faststart.specs.Written.{AppendsMoved, IsPlaced, movie_of};
+ghost use Rattle.std.specs.Prelude.{◌≡◌, Some, length, IfOk, IfSome};
+ghost use Rattle.mp4_faststart.specs.Places.{IsMove, IsPlaced};
+ghost use Rattle.mp4_faststart.specs.Written.{WroteFastStart, WroteFile, WroteMoved, WrotePlan};
+ghost use Rattle.mp4_pieces.specs.NewFiles.{bytes_by};
+ghost use Rattle.mp4_pieces.specs.Pieces.{spelled};
+ghost use Rattle.mp4_walk.specs.FileBoxes.{boxes_of};
 
 use crate::movement::Move;
-use crate::movie::moved_movie;
 use crate::place::placed;
-use crate::refusal::Refusal;
-use mp4_io::{Output, write_all};
+use crate::planning::{plan_copy, plan_move};
+use crate::refusal::{Refusal, Stop};
+use mp4_io::Output;
+use mp4_pieces::{PieceSource, Plan, write_pieces};
+use mp4_rewrite::write_checked;
 use mp4_walk::Source;
 use std::alloc::Global;
 use std::io::Write;
 
-/// The number of bytes that are copied at once.
-const BLOCK: usize = 65536;
-
-/// Fills `block` with bytes of a source, starting at the position `at`, and writes it.
-fn copy_block<S: Source, W: Write>(
-    source: &mut S,
-    at: u64,
-    block: &mut [u8],
-    output: &mut Output<W>,
-) -> Result<(), Refusal>
-    ensures bytes { OnOk result
-        (IfSome (S.all source.old)
-        (λ B. Appends (W.contents output.old.inner) (W.contents output.new.inner) (piece B at (length block.old)))) }
-    ensures keeps { S.all source.new ≡ S.all source.old }
-{
-    source.read_at(at, block)?;
-    write_all(output, block)?;
-    Ok(())
-}
-
-/// Writes `long` bytes of a source, starting at the position `at`, by way of the front of `buffer`.
-fn copy_front<S: Source, W: Write>(
-    source: &mut S,
-    at: u64,
-    long: usize,
-    buffer: &mut [u8],
-    output: &mut Output<W>,
-) -> Result<(), Refusal>
-    requires { long ≤ length buffer.old }
-    ensures bytes { OnOk result
-        (IfSome (S.all source.old)
-        (λ B. Appends (W.contents output.old.inner) (W.contents output.new.inner) (piece B at long))) }
-    ensures keeps { S.all source.new ≡ S.all source.old }
-{
-    copy_block(source, at, &mut buffer[..long], output)
-}
-
-/// Writes the bytes of a source between the positions `from` and `to`, a buffer at a time.
-fn copy<S: Source, W: Write>(
-    source: &mut S,
-    from: u64,
-    to: u64,
-    buffer: &mut [u8],
-    output: &mut Output<W>,
-) -> Result<(), Refusal>
-    requires { 0 < length buffer.old }
-    ensures bytes { OnOk result
-        (IfSome (S.all source.old)
-        (λ B. Appends (W.contents output.old.inner) (W.contents output.new.inner) (piece B from (to - from)))) }
-    ensures keeps { S.all source.new ≡ S.all source.old }
-{
-    let mut at = from;
-    while at < to {
-        let long = (to - at).min(buffer.len() as u64) as usize;
-        copy_front(source, at, long, buffer, output)?;
-        at += long as u64;
-    }
-    Ok(())
-}
-
-/// Returns the movie box of a source.
-fn movie_of<S: Source>(alloc: Global, source: &mut S, shift: Move) -> Result<Vec<u8>, Refusal>
-    ensures bytes { IfOk result (λ bytes. IfSome (S.all source.old) (λ B. bytes.items ≡ movie_of shift B)) }
-    ensures length { IfOk result (λ bytes. length bytes.items ≡ shift.end - shift.begin) }
-    ensures keeps { S.all source.new ≡ S.all source.old }
-{
-    let mut bytes = Vec::new(alloc);
-    bytes.resize(shift.end.saturating_sub(shift.begin) as usize, 0)?;
-    source.read_at(shift.begin, &mut bytes)?;
-    Ok(bytes)
-}
-
-/// Writes a source of length `size`, with `movie` as its movie box at the new place.
-fn write_parts<S: Source, W: Write>(
-    source: &mut S,
-    size: u64,
-    shift: Move,
-    movie: &[u8],
-    buffer: &mut [u8],
-    output: &mut Output<W>,
-) -> Result<(), Refusal>
-    requires { 0 < length buffer.old }
-    ensures { OnOk result
-        (IfSome (S.all source.old)
-        (λ B. size ≡ length B → Appends (W.contents output.old.inner) (W.contents output.new.inner)
-        (moved_file shift B movie.now))) }
-{
-    copy(source, 0, shift.insert, buffer, output)?;
-    write_all(output, movie)?;
-    copy(source, shift.insert, shift.begin, buffer, output)?;
-    copy(source, shift.end, size, buffer, output)?;
-    Ok(())
-}
-
-/// Writes a source of length `size` with its movie box moved.
-fn write_moved<S: Source, W: Write>(
-    alloc: Global,
-    source: &mut S,
-    size: u64,
-    shift: Move,
-    buffer: &mut [u8],
-    output: &mut Output<W>,
-) -> Result<(), Refusal>
-    requires { 0 < length buffer.old }
-    ensures { OnOk result
-        (IsPlaced size shift
-        → IfSome (S.all source.old)
-        (λ B. size ≡ length B
-        → AppendsMoved B (Some shift) (W.contents output.old.inner) (W.contents output.new.inner))) }
-{
-    let movie = movie_of(alloc, source, shift)?;
-    let made = moved_movie(alloc, movie.as_slice(), shift)?;
-    write_parts(source, size, shift, made.as_slice(), buffer, output)?;
-    Ok(())
-}
-
-/// Writes a source of length `size` with its movie box moved, or as it is. Returns the move, if there was one.
-fn write_by<S: Source, W: Write>(
-    alloc: Global,
-    source: &mut S,
-    size: u64,
-    shift: Option<Move>,
-    buffer: &mut [u8],
-    output: &mut Output<W>,
-) -> Result<Option<Move>, Refusal>
-    requires { 0 < length buffer.old }
-    ensures { IfOk result
-        (λ done. IfSome shift (IsPlaced size)
-        → IfSome (S.all source.old)
-        (λ B. size ≡ length B → AppendsMoved B done (W.contents output.old.inner) (W.contents output.new.inner))) }
-{
-    match shift {
-        None => {
-            copy(source, 0, size, buffer, output)?;
-            Ok(None)
-        }
-        Some(shift) => {
-            write_moved(alloc, source, size, shift, buffer, output)?;
-            Ok(Some(shift))
-        }
-    }
-}
-
-/// Writes a file with its movie box before its media data, and returns the move. If the movie box is there already,
-/// writes the file as it is and returns `None`. Each track keeps its samples, with the same bytes. After an error, a
-/// beginning of the file may be written. Takes the memory of two movie boxes, of the boxes in both, and of the tables
-/// of one track in both.
-pub fn write_fast_start<S: Source, W: Write>(
+/// Writes what `plan` spells out over `source`.
+fn write_plan<S: Source, W: Write>(
     alloc: Global,
     source: S,
+    plan: &Plan,
     output: &mut Output<W>,
-) -> Result<Option<Move>, Refusal>
-    ensures { IfOk result
-        (λ shift. IfSome (S.all source)
-        (λ B. AppendsMoved B shift (W.contents output.old.inner) (W.contents output.new.inner))) }
+) -> Result<(), Stop>
+    ensures { IfSome (S.all source)
+        (λ B. WroteFile (spelled B plan.now) (W.contents output.old.inner) (W.contents output.new.inner) result) }
 {
-    let (mut source, size, shift) = placed(alloc, source)?;
-    let mut buffer = Vec::new(alloc);
-    buffer.resize(BLOCK, 0)?;
-    write_by(alloc, &mut source, size, shift, &mut buffer, output)
+    let mut source = source;
+    match write_pieces(alloc, &mut source, plan.pieces(), output) {
+        Ok(()) => Ok(()),
+        Err(failure) => Err(Stop::Failed(failure)),
+    }
+}
+
+/// Writes `source`, which has the length `size`, as it is.
+fn write_copy<S: Source, W: Write>(
+    alloc: Global,
+    source: S,
+    size: u64,
+    output: &mut Output<W>,
+) -> Result<(), Stop>
+    ensures { IfSome (S.all source)
+        (λ B. size ≡ length B → WroteFile B (W.contents output.old.inner) (W.contents output.new.inner) result) }
+{
+    match plan_copy(alloc, size) {
+        Ok(plan) => write_plan(alloc, source, &plan, output),
+        Err(stop) => Err(stop),
+    }
+}
+
+/// Writes what `plan` spells out over `source`, if it keeps the media. `new` is a source of that file.
+fn write_kept<S: Source, T: Source, W: Write>(
+    alloc: Global,
+    source: S,
+    new: PieceSource<T>,
+    plan: &Plan,
+    output: &mut Output<W>,
+) -> Result<(), Stop>
+    ensures { IfSome (S.all source) (λ B. bytes_by new ≡ Some (spelled B plan.now)
+        → WrotePlan B plan.now (W.contents output.old.inner) (W.contents output.new.inner) result) }
+{
+    match write_checked(alloc, source, new, plan, output) {
+        Ok(()) => Ok(()),
+        Err(mp4_rewrite::Stop::Refused(refusal)) => Err(Stop::Refused(Refusal::Media(refusal))),
+        Err(mp4_rewrite::Stop::Failed(failure)) => Err(Stop::Failed(failure)),
+    }
+}
+
+/// Returns a source of what `plan` spells out over the file `again`.
+fn new_file<T: Source>(again: T, plan: Plan) -> Result<PieceSource<T>, Stop>
+    ensures old { IfOk result (λ s. s.old ≡ T.all again) }
+    ensures pieces { IfOk result (λ s. s.pieces ≡ plan) }
+{
+    match PieceSource::new(again, plan) {
+        Ok(Some(new)) => Ok(new),
+        Ok(None) => Err(Stop::Refused(Refusal::Media(mp4_rewrite::Refusal::Pieces))),
+        Err(error) => Err(Stop::from(error)),
+    }
+}
+
+/// Writes what `plan` spells out over `source`, if it keeps the media. `again` is a second source of the same file, and
+/// `twin` a second plan of the same new file.
+fn write_by<S: Source, T: Source, W: Write>(
+    alloc: Global,
+    source: S,
+    again: T,
+    plan: &Plan,
+    twin: Plan,
+    output: &mut Output<W>,
+) -> Result<(), Stop>
+    ensures { IfSome (S.all source) (λ B. T.all again ≡ Some B → spelled B twin ≡ spelled B plan.now
+        → WrotePlan B plan.now (W.contents output.old.inner) (W.contents output.new.inner) result) }
+{
+    match new_file(again, twin) {
+        Ok(new) => write_kept(alloc, source, new, plan, output),
+        Err(stop) => Err(stop),
+    }
+}
+
+/// Writes `source`, which has the length `size`, with its movie box moved. `again` is a second source of the same file.
+fn write_moved<S: Source, T: Source, W: Write>(
+    alloc: Global,
+    source: S,
+    again: T,
+    size: u64,
+    shift: Move,
+    output: &mut Output<W>,
+) -> Result<(), Stop>
+    ensures { IfSome (S.all source) (λ B. size ≡ length B → IsMove (boxes_of B) (length B) shift
+        → T.all again ≡ Some B
+        → WroteMoved B shift (W.contents output.old.inner) (W.contents output.new.inner) result) }
+{
+    let mut source = source;
+    match plan_move(alloc, &mut source, size, shift) {
+        Ok((plan, twin)) => write_by(alloc, source, again, &plan, twin, output),
+        Err(stop) => Err(stop),
+    }
+}
+
+/// Writes `source`, which has the length `size`, with its movie box moved, or as it is. Returns the move, if there is
+/// one. `again` is a second source of the same file.
+fn write_as<S: Source, T: Source, W: Write>(
+    alloc: Global,
+    source: S,
+    again: T,
+    size: u64,
+    shift: Option<Move>,
+    output: &mut Output<W>,
+) -> Result<Option<Move>, Stop>
+    ensures { IfSome (S.all source) (λ B. size ≡ length B → IsPlaced (boxes_of B) (length B) shift
+        → T.all again ≡ Some B
+        → WroteFastStart B (W.contents output.old.inner) (W.contents output.new.inner) result) }
+{
+    match shift {
+        None => match write_copy(alloc, source, size, output) {
+            Ok(()) => Ok(None),
+            Err(stop) => Err(stop),
+        },
+        Some(shift) => match write_moved(alloc, source, again, size, shift, output) {
+            Ok(()) => Ok(Some(shift)),
+            Err(stop) => Err(stop),
+        },
+    }
+}
+
+/// Writes a file with its `moov` before its media data, and returns the move. If the `moov` is there already, or the
+/// file has no `mdat`, writes the file as it is and returns `None`. `again` is a second source of the same file, since
+/// the old and the new file are compared. Every track keeps its samples, all bytes outside the `moov` are the same, and
+/// so are those of the `moov` except for its offsets. After a refusal nothing is written, and after a failure a
+/// beginning of the file. Needs the memory of three `moov`s, of the boxes of both files, of the sample tables of one
+/// track in both, and a block of 1 MiB.
+pub fn write_fast_start<S: Source, T: Source, W: Write>(
+    alloc: Global,
+    source: S,
+    again: T,
+    output: &mut Output<W>,
+) -> Result<Option<Move>, Stop>
+    ensures { IfSome (S.all source) (λ B. T.all again ≡ Some B
+        → WroteFastStart B (W.contents output.old.inner) (W.contents output.new.inner) result) }
+{
+    match placed(alloc, source) {
+        Ok((source, size, shift)) => write_as(alloc, source, again, size, shift, output),
+        Err(stop) => Err(stop),
+    }
 }

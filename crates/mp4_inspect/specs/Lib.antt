@@ -1,6 +1,4 @@
-pub mod Destination
 pub mod Heading
 pub mod Json
-pub mod Opened
 pub mod Outcome
 pub mod Written

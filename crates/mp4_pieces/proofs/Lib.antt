@@ -6,3 +6,4 @@ pub mod Passed
 pub mod Plans
 pub mod Beginnings
 pub mod Windows
+pub mod Inside

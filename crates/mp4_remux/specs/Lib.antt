@@ -1,14 +1,2 @@
-pub mod Media
-pub mod Kept
-pub mod Fragments
-pub mod FragmentLaws
-pub mod Alike
-pub mod Told
-pub mod Walks
-pub mod WalkLaws
-pub mod Tracks
-pub mod TrackLaws
-pub mod Groups
-pub mod Whole
-pub mod Carried
-pub mod Written
+pub mod Destination
+pub mod Outcome

@@ -1,5 +1,5 @@
-//! For readers of `mp4_samples`: example callers. For maintainers: tests of `mp4_samples`, `mp4_movie`, `mp4_walk` and
-//! `mp4_faststart` with hand-written files, tables and fragments that follow ISO/IEC 14496-12.
+//! For readers of `mp4_samples`: example callers. For maintainers: tests of `mp4_samples`, `mp4_movie`, `mp4_walk`,
+//! `mp4_faststart` and `mp4_edit` with hand-written files, tables and fragments that follow ISO/IEC 14496-12.
 #![tactic(auto)]
 
 pub mod callers;

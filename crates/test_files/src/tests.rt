@@ -3,6 +3,7 @@
 mod boxes;
 mod compact_sizes;
 mod disagreements;
+mod edit;
 mod edits;
 mod faststart;
 mod fragments;

@@ -1,10 +1,6 @@
--- The copy keeps its length. Each box takes some of the bytes that are left.
-use Rattle.std.proofs.Common.{◌≡◌, length}
+-- Each box takes some of the bytes that are left.
 use Rattle.mp4_walk.specs.Walk.{bytes_left}
 use Rattle.mp4_faststart.proofs.patch.shifted.Given as goal
-
-abbrev pub invariant-loop-tree : goal.invariant-loop-tree
-invariant-loop-tree l = length l.bytes.items ≡ length l.movie
 
 abbrev pub decreases-loop-tree : goal.decreases-loop-tree
 decreases-loop-tree l = bytes_left l.tree

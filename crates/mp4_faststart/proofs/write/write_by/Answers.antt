@@ -1,17 +1,8 @@
-use Rattle.std.proofs.Common.{subst}
-use Rattle.std.specs.Prelude.{IfSome}
-use Rattle.std.specs.declared.option.Option.{Option}
-use Rattle.mp4_faststart.specs.Written.{IsPlaced}
-use Rattle.mp4_faststart.specs.declared.movement.Move.{Move}
-use Rattle.mp4_faststart.proofs.Pieces.{all_copied}
+use Rattle.mp4_faststart.proofs.Writing.{by_again}
 use Rattle.mp4_faststart.proofs.write.write_by.Goals as goal
 
-pub returns-in_ok-copy-in-None : goal.returns-in_ok-copy-in-None
-returns-in_ok-copy-in-None g c = λ _.
-    all_copied (g.S.Source.all c.args.source.now) (g.W.Write.contents c.args.output.now.inner)
-    (g.W.Write.contents c.copy.new.output.inner) c.args.size c.in_ok-copy-in-None.ensures.bytes
-
-pub returns-in_ok-write_moved-in-Some : goal.returns-in_ok-write_moved-in-Some
-returns-in_ok-write_moved-in-Some g c = λ placed.
-    c.in_ok-write_moved-in-Some.ensures
-    (subst (λ (o : Option Move). IfSome o (IsPlaced c.args.size)) c.in-Some.is placed)
+pub returns-in-Ok : goal.returns-in-Ok
+returns-in-Ok g c =
+    by_again (g.S.Source.all c.args.source) (g.T.Source.all c.args.again) c.in-Ok.new c.args.plan.now c.args.twin
+    (g.W.Write.contents c.args.output.now.inner) (g.W.Write.contents c.write_kept.new.output.inner)
+    c.write_kept.result c.in-Ok.ensures.old c.in-Ok.ensures.pieces c.write_kept.ensures

@@ -1,0 +1,9 @@
+-- The offsets that are passed are as after the move.
+use Rattle.std.proofs.Common.{◌≡◌, ℕ, ◌*◌, ◌<◌}
+use Rattle.std.specs.Prelude.{Some}
+use Rattle.mp4_frame.specs.Bytes.{number}
+use Rattle.mp4_faststart.proofs.held.are_long_moved.Given as goal
+
+abbrev pub invariant-loop-index : goal.invariant-loop-index
+invariant-loop-index g l =
+    (i : ℕ) → i < l.index → g.F.after l.shift (number l.old (8 * i) 8) ≡ Some (number l.new (8 * i) 8)

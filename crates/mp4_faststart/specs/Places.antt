@@ -1,0 +1,44 @@
+-- The place of the movie box of a file, and its new place.
+use Rattle.std.specs.Prelude.{ℕ, ◌≡◌, ◌+◌, ◌<◌, ◌≤◌, List, None, Some}
+use Rattle.std.specs.declared.option.Option.{Option}
+use Rattle.mp4_frame.specs.FourCC.{four_cc_of}
+use Rattle.mp4_frame.specs.declared.codes.TheConstants as codes
+use Rattle.mp4_movie.specs.Levels.{Found, first_in}
+use Rattle.mp4_walk.specs.declared.tree_box.TreeBox.{TreeBox}
+use Rattle.mp4_faststart.specs.declared.movement.Move.{Move}
+
+abbrev pub box_of : Option Found → Option TreeBox
+box_of None = None
+box_of (Some f) = Some f.box
+
+-- the first box of this code in the top level of a file with these boxes
+abbrev pub first_box : ℕ → List TreeBox → Option TreeBox
+first_box code boxes = box_of (first_in 0 (four_cc_of code) boxes)
+
+-- The move of the first `moov` of the top level to the first `mdat` of the top level, which is before it. The `moov` is
+-- within a file of this length
+pub record IsMove (boxes : List TreeBox) (length : ℕ) (c : Move) : Type 0 where
+  pub movie : TreeBox
+  pub media : TreeBox
+  pub is_movie : first_box codes.MOOV boxes ≡ Some movie
+  pub is_media : first_box codes.MDAT boxes ≡ Some media
+  pub insert : c.insert ≡ media.position
+  pub begin : c.begin ≡ movie.position
+  pub end : c.end ≡ movie.position + movie.length
+  pub before : c.insert ≤ c.begin
+  pub within : c.end ≤ length
+
+abbrev pub IsBefore : TreeBox → Option TreeBox → Type 0
+IsBefore movie None = Unit {0}
+IsBefore movie (Some media) = movie.position < media.position
+
+-- there is a `moov`, and no `mdat` before the first one
+pub record IsInFront (boxes : List TreeBox) : Type 0 where
+  pub movie : TreeBox
+  pub is_movie : first_box codes.MOOV boxes ≡ Some movie
+  pub before : IsBefore movie (first_box codes.MDAT boxes)
+
+-- the move, or none if the movie box is before the media data
+abbrev pub IsPlaced : List TreeBox → ℕ → Option Move → Type 0
+IsPlaced boxes length None = IsInFront boxes
+IsPlaced boxes length (Some c) = IsMove boxes length c

@@ -1,0 +1,297 @@
+//! The requests that a command line can make.
+
+use crate::argument::{
+    Argument, ArgumentError, brands, insertion, language, removal, replacement, rotation, tag,
+    track_of,
+};
+use clap::{Arg, ArgAction, ArgMatches, Command, Error};
+use mp4_command::unreadable;
+use std::alloc::{AllocError, Global};
+
+/// What a command line asks for.
+#[derive(Debug, Drop)]
+pub enum Work {
+    /// The `moov` before the media data.
+    FastStart,
+    /// These changes.
+    Edit(Vec<Argument>),
+}
+
+/// A request to write a file.
+#[derive(Debug, Drop)]
+pub struct Request {
+    /// What should be done with the file.
+    pub work: Work,
+    /// The name of the file to read. A name that is not UTF-8 has a mark.
+    pub from: String,
+    /// The name of the file to write; `-` is the standard output.
+    pub to: String,
+}
+
+/// The reason why a command line makes no request.
+#[derive(Debug, Drop)]
+pub enum Misuse {
+    /// The text and the status of the parser: for a misuse, the help or the version.
+    Parsed(Error),
+    /// The value of an option has another form than this one.
+    Value {
+        /// The name of the option.
+        option: &'static str,
+        /// The value.
+        value: String,
+        /// The form that it should have.
+        form: &'static str,
+    },
+    /// The value of an option is not UTF-8. The text is the value, escaped.
+    NotText(String),
+    /// No option asks for an edit.
+    NoEdit,
+    /// Memory was refused.
+    Memory,
+}
+
+impl From<AllocError> for Misuse {
+    fn from(_error: AllocError) -> Misuse {
+        Misuse::Memory
+    }
+}
+
+/// What no edit can do, and what holds of a dropped track: the end of the help of `edit`.
+const AFTER: &str = "A PATH is codes and numbers, such as moov/trak[1]/udta; / is the file. Paths are those of IN, whatever
+the order of the options. TRACK is a track_ID.
+
+Every sample of every track keeps its bytes, times, flags and description, and every other byte stays the same, except
+for the named boxes, the sizes of the boxes around them, and offsets, which lead to the same bytes as before. So no
+edit may touch a sample table (stbl) or a fragment (moof): such an edit is refused, and nothing is written.
+
+A dropped track has no samples any more. Its trak and trex are removed, and its traf are made free boxes of the same
+length. Its media data stay where they are, and so do references to it. All other tracks keep every sample.";
+
+/// Returns the argument `name` for one file.
+fn named<'a>(alloc: Global, name: &'a str, help: &'a str) -> Arg<'a> {
+    Arg::new(alloc, name).required(true).help(help)
+}
+
+/// Returns the argument for the file to read.
+fn input<'a>(alloc: Global) -> Arg<'a> {
+    named(alloc, "IN", "File to read; it isn't changed")
+}
+
+/// Returns the argument for the file to write.
+fn output<'a>(alloc: Global) -> Arg<'a> {
+    let help = "File to write, whole or not at all; an existing file is replaced; - is the standard output";
+    named(alloc, "OUT", help)
+}
+
+/// Returns the option `name` with a value, which may be given more than once.
+fn option<'a>(alloc: Global, name: &'a str, value: &'a str, help: &'a str) -> Arg<'a> {
+    Arg::new(alloc, name)
+        .long(name)
+        .action(ArgAction::Append)
+        .value_name(value)
+        .help(help)
+}
+
+/// Returns the option `name` without a value.
+fn flag<'a>(alloc: Global, name: &'a str, help: &'a str) -> Arg<'a> {
+    Arg::new(alloc, name)
+        .long(name)
+        .action(ArgAction::SetTrue)
+        .help(help)
+}
+
+/// Returns the command `faststart`.
+fn fast_start<'a>(alloc: Global) -> Result<Command<'a>, AllocError> {
+    Command::new(alloc, "faststart")
+        .about(
+            "Write a copy of a file with the moov before the media data, so that a player gets it first",
+        )
+        .arg(input(alloc))?
+        .arg(output(alloc))
+}
+
+/// Adds the options of `edit` for boxes.
+fn with_boxes<'a>(alloc: Global, command: Command<'a>) -> Result<Command<'a>, AllocError> {
+    let remove = "Remove the box at PATH";
+    let insert = "Insert the boxes of FILE as the last children of PATH, or with PATH:N before its child N, from 0";
+    let replace = "Replace the box at PATH by that of FILE";
+    let brand = "Set the major brand to the first of these codes, and add all of them to the compatible brands";
+    command
+        .arg(option(alloc, "remove", "PATH", remove))?
+        .arg(option(alloc, "insert", "PATH=FILE", insert))?
+        .arg(option(alloc, "replace", "PATH=FILE", replace))?
+        .arg(option(alloc, "brand", "BRANDS", brand))
+}
+
+/// Adds the options of `edit` for tracks.
+fn with_tracks<'a>(alloc: Global, command: Command<'a>) -> Result<Command<'a>, AllocError> {
+    let language = "Set the language of a track, such as 1=eng; an elng of it is removed";
+    let rotate = "Turn the pictures of a track clockwise by 0, 90, 180 or 270 degrees, such as 1=90";
+    command
+        .arg(option(alloc, "language", "TRACK=LANGUAGE", language))?
+        .arg(option(alloc, "rotate", "TRACK=DEGREES", rotate))?
+        .arg(option(alloc, "enable", "TRACK", "Enable a track"))?
+        .arg(option(alloc, "disable", "TRACK", "Disable a track"))?
+        .arg(option(alloc, "drop-track", "TRACK", "Drop a track"))
+}
+
+/// Adds the options of `edit` for tags.
+fn with_tags<'a>(alloc: Global, command: Command<'a>) -> Result<Command<'a>, AllocError> {
+    let none = "Remove the tags of the movie";
+    let key = "Set a tag of iTunes to a text, such as \u{a9}alb=Blue";
+    command
+        .arg(flag(alloc, "no-tags", none))?
+        .arg(option(alloc, "title", "TEXT", "Set the tag \u{a9}nam"))?
+        .arg(option(alloc, "tag", "KEY=VALUE", key))?
+        .arg(option(
+            alloc,
+            "cover",
+            "FILE",
+            "Set the tag covr to a picture, JPEG or PNG",
+        ))
+}
+
+/// Returns the command `edit`.
+fn edit<'a>(alloc: Global) -> Result<Command<'a>, AllocError> {
+    let about = "Write a copy of a file with other boxes, a track less, or other tags";
+    let command = Command::new(alloc, "edit")
+        .about(about)
+        .after_help(AFTER)
+        .arg(input(alloc))?
+        .arg(output(alloc))?;
+    let command = with_boxes(alloc, command)?;
+    let command = with_tracks(alloc, command)?;
+    with_tags(alloc, command)
+}
+
+/// Returns the whole command line.
+fn command<'a>(alloc: Global) -> Result<Command<'a>, AllocError> {
+    Command::new(alloc, "mp4remux")
+        .version("0.1.0")
+        .about(
+            "Rewrite the container of MP4 files; every sample of every track keeps its bytes, times and description",
+        )
+        .subcommand_required(true)
+        .arg_required_else_help(true)
+        .subcommand(fast_start(alloc)?)?
+        .subcommand(edit(alloc)?)
+}
+
+/// Returns the name of the file in the argument `id` of `matches`.
+fn name_of(alloc: Global, matches: &ArgMatches<'_>, id: &str) -> Result<String, AllocError> {
+    String::from_str(alloc, matches.get_str(id).unwrap_or(""))
+}
+
+/// Returns the change that the option `name` with this value asks for.
+fn argument(alloc: Global, name: &str, value: &str) -> Result<Argument, ArgumentError> {
+    match name {
+        "remove" => removal(alloc, value),
+        "insert" => insertion(alloc, value),
+        "replace" => replacement(alloc, value),
+        "brand" => brands(alloc, value),
+        "language" => language(value),
+        "rotate" => rotation(value),
+        "enable" => Ok(Argument::Enable(track_of(value)?, true)),
+        "disable" => Ok(Argument::Enable(track_of(value)?, false)),
+        "drop-track" => Ok(Argument::DropTrack(track_of(value)?)),
+        "title" => Ok(Argument::Title(String::from_str(alloc, value)?)),
+        "tag" => tag(alloc, value),
+        _ => Ok(Argument::Cover(String::from_str(alloc, value)?)),
+    }
+}
+
+/// Adds to `arguments` what the option `name` asks for, each time that it is given.
+fn add_all(
+    alloc: Global,
+    matches: &ArgMatches<'_>,
+    name: &'static str,
+    arguments: &mut Vec<Argument>,
+) -> Result<(), Misuse> {
+    let Some(values) = matches.get_strs(name) else {
+        return Ok(());
+    };
+    for item in values {
+        let value: &str = *item;
+        if let Some(shown) = unreadable(value) {
+            return Err(Misuse::NotText(String::from_str(alloc, shown)?));
+        }
+        match argument(alloc, name, value) {
+            Ok(argument) => match arguments.push(argument) {
+                Ok(()) => {}
+                Err(_) => return Err(Misuse::Memory),
+            },
+            Err(ArgumentError::Form(form)) => {
+                return Err(Misuse::Value {
+                    option: name,
+                    value: String::from_str(alloc, value)?,
+                    form,
+                });
+            }
+            Err(ArgumentError::Memory) => return Err(Misuse::Memory),
+        }
+    }
+    Ok(())
+}
+
+/// The options of `edit` that have a value.
+const OPTIONS: [&str; 12] = [
+    "remove",
+    "insert",
+    "replace",
+    "brand",
+    "language",
+    "rotate",
+    "enable",
+    "disable",
+    "drop-track",
+    "title",
+    "tag",
+    "cover",
+];
+
+/// Returns the changes in `matches`.
+fn edit_of(alloc: Global, matches: &ArgMatches<'_>) -> Result<Work, Misuse> {
+    let mut arguments = Vec::new(alloc);
+    for name in OPTIONS {
+        add_all(alloc, matches, name, &mut arguments)?;
+    }
+    if matches.get_flag("no-tags") {
+        match arguments.push(Argument::NoTags) {
+            Ok(()) => {}
+            Err(_) => return Err(Misuse::Memory),
+        }
+    }
+    if arguments.is_empty() {
+        return Err(Misuse::NoEdit);
+    }
+    Ok(Work::Edit(arguments))
+}
+
+/// Returns the request to do `work` with the files in `matches`.
+fn request(alloc: Global, matches: &ArgMatches<'_>, work: Work) -> Result<Request, Misuse> {
+    Ok(Request {
+        work,
+        from: name_of(alloc, matches, "IN")?,
+        to: name_of(alloc, matches, "OUT")?,
+    })
+}
+
+/// Returns the request in `matches`.
+fn asked(alloc: Global, matches: &ArgMatches<'_>) -> Result<Request, Misuse> {
+    match matches.subcommand() {
+        Some(("edit", inner)) => {
+            let work = edit_of(alloc, inner)?;
+            request(alloc, inner, work)
+        }
+        Some((_, inner)) => request(alloc, inner, Work::FastStart),
+        None => request(alloc, matches, Work::FastStart),
+    }
+}
+
+/// Returns the request of a command line. The first of its `words` is the program's name.
+pub fn request_of(alloc: Global, words: &[String]) -> Result<Request, Misuse> {
+    match command(alloc)?.try_get_matches_from(words) {
+        Ok(matches) => asked(alloc, &matches),
+        Err(error) => Err(Misuse::Parsed(error)),
+    }
+}

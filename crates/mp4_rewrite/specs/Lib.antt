@@ -1,0 +1,14 @@
+pub mod Media
+pub mod Kept
+pub mod Fragments
+pub mod FragmentLaws
+pub mod Alike
+pub mod Told
+pub mod Walks
+pub mod WalkLaws
+pub mod Tracks
+pub mod TrackLaws
+pub mod Groups
+pub mod Whole
+pub mod Carried
+pub mod Written

@@ -1,0 +1,110 @@
+//! The reasons why a file is not rewritten.
+
+ghost use Rattle.std.specs.Prelude.{◌≡◌};
+ghost use Rattle.mp4_rewrite.specs.declared.refusal.Stop.TheVariants.{Failed};
+
+use mp4_io::{Failure, read_failure};
+use mp4_movie::{BoxError, MovieError};
+use mp4_samples::Disagreement;
+use std::io;
+
+/// A track as refusals name it.
+#[derive(Clone, Copy, Debug, PartialEq, Eq, thiserror::Error)]
+#[error("trak {number} at {position}")]
+pub struct TrackPlace {
+    /// The number of the track in the first `moov`, counted from 1.
+    pub number: usize,
+    /// The position of its `trak` in the old file, in bytes.
+    pub position: u64,
+}
+
+/// The reason why a plan of a new file is refused: the new file would not keep the media of the old file, or nobody can
+/// tell.
+#[derive(Debug, Drop, thiserror::Error)]
+pub enum Refusal {
+    /// A piece of the plan is not in the old file.
+    #[error("a piece is not in the old file")]
+    Pieces,
+    /// The new file would have another number of tracks.
+    #[error("the new file would have {after} tracks, and not {before}")]
+    Tracks {
+        /// The number of tracks of the old file.
+        before: usize,
+        /// The number of tracks of the new file.
+        after: usize,
+    },
+    /// A `traf` can't be read.
+    #[error("{0}")]
+    Fragment(BoxError),
+    /// The track_ID, the timescale or the handler type of a track can't be read, or would not be the same.
+    #[error("{0}: its track_ID, timescale and handler can't be kept")]
+    Headers(TrackPlace),
+    /// The sample tables or the sample descriptions of a track can't be read.
+    #[error("{track}: {error}")]
+    Track {
+        /// The track.
+        track: TrackPlace,
+        /// The box that is missing or has a fault.
+        error: BoxError,
+    },
+    /// The sample descriptions of a track would not be the same.
+    #[error("{0}: its stsd would not be the same")]
+    Descriptions(TrackPlace),
+    /// The sample tables of a track disagree.
+    #[error("{track}: {disagreement}")]
+    Tables {
+        /// The track.
+        track: TrackPlace,
+        /// The difference between them.
+        disagreement: Disagreement,
+    },
+    /// A sample would not be the same.
+    #[error("{track}: sample {number} would not be the same")]
+    Sample {
+        /// The track.
+        track: TrackPlace,
+        /// The number of the sample, counted from 1.
+        number: u64,
+    },
+}
+
+/// The reason why a new file is not written, or not to its end.
+#[derive(Debug, Drop, thiserror::Error)]
+pub enum Stop {
+    /// The plan is refused. Nothing is written.
+    #[error("{0}")]
+    Refused(Refusal),
+    /// Reading or writing failed, or memory was refused. A beginning of the new file is written.
+    #[error("{0}")]
+    Failed(Failure),
+}
+
+impl From<Failure> for Stop {
+    ghost from_gives = { λ failure stop. stop ≡ Failed failure };
+
+    fn from(failure: Failure) -> Stop {
+        Stop::Failed(failure)
+    }
+}
+
+impl From<io::Error> for Stop {
+    fn from(error: io::Error) -> Stop {
+        Stop::Failed(read_failure(&error))
+    }
+}
+
+/// Returns why the boxes of `track` can't be read.
+pub(crate) fn in_track(error: MovieError, track: TrackPlace) -> Stop {
+    match error {
+        MovieError::Box(error) => Stop::Refused(Refusal::Track { track, error }),
+        MovieError::Io(error) => Stop::from(error),
+    }
+}
+
+/// Returns why the fragments of a file can't be read.
+pub(crate) fn in_fragments(error: MovieError) -> Stop {
+    match error {
+        MovieError::Box(error) => Stop::Refused(Refusal::Fragment(error)),
+        MovieError::Io(error) => Stop::from(error),
+    }
+}
