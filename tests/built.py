@@ -70,9 +70,15 @@ def library():
     return folder
 
 
+def for_binding(path):
+    """Returns the variables with which the module of bindings/python loads the library at `path`, and none that is
+    installed."""
+    return {"MP4_BOX_CODEC_LIB": path, "PKG_CONFIG_LIBDIR": "/nonexistent", "PKG_CONFIG_PATH": ""}
+
+
 def codec():
     """Returns the module of bindings/python, over the library for C."""
-    os.environ["MP4_BOX_CODEC_LIB"] = os.path.join(library(), "libmp4_box_codec.so.0")
+    os.environ.update(for_binding(os.path.join(library(), "libmp4_box_codec.so.0")))
     sys.path.insert(0, os.path.join(TOP, "bindings", "python"))
     return importlib.import_module("mp4_box_codec")
 
