@@ -135,10 +135,13 @@ class Scan(unittest.TestCase):
     def test_expected(self):
         """Checks a few values that are known of the stored files, so that the loop isn't only compared with itself."""
         by_name = {re.sub(r".*\d{4}-|\.mp4$", "", path): it for path, it in reversed(self.expected.items())}
-        self.assertEqual(by_name["plain"]["faults"], [])
-        self.assertEqual([it["codecs"] for it in by_name["plain"]["tracks"]], [["avc1"], ["mp4a"]][:1])
-        self.assertTrue(by_name["broken"]["faults"])
-        self.assertTrue(by_name["fragmented"]["fragments"])
+        track = {"track_ID": 1, "kind": "vide", "codecs": ["avc1"], "seconds": 5.0, "samples": 10}
+        fault = {"position": 728, "path": "moov/trak/mdia/minf/stbl/stco",
+                 "text": "1 of 1 chunks begin past the end of the file (905 bytes)"}
+        found = {"bytes": 905, "seconds": 5.0, "tracks": [track], "fragments": 0, "faults": [fault]}
+        self.assertEqual({**by_name["plain"], "file": ""}, {"file": "", **found})
+        self.assertEqual(by_name["broken"]["faults"][0]["position"], 32)
+        self.assertEqual(by_name["fragmented"]["fragments"], 1)
         self.assertTrue(any(it.get("faults") for it in self.expected.values()))
         self.assertTrue(any("failure" in it for it in self.expected.values()))
 
