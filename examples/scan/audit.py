@@ -90,7 +90,7 @@ class Audit:
         names = names_of(box)
         if box.what in FAULTS and not self.is_terminator(box):
             self.fault(box, FAULTS[box.what])
-        self.fragments += box.path == names[0] and names[0] == "moof"
+        self.fragments += names == ["moof"]
         # Only the first `moov` has tracks.
         if box.path.startswith("moov/trak") and names[1:] == ["trak"]:
             self.tracks.append({"track_ID": None, "kind": None, "codecs": [], "seconds": None, "samples": None})
@@ -116,6 +116,8 @@ class Audit:
             self.is_here = value.url is not None and value.url.flags & 1
         elif box.name == "stsz":
             track["samples"] = value.sample_count
+        elif box.name == "stz2":
+            track["samples"] = value["sample_count"]
         elif box.name in ("stco", "co64"):
             outside = sum(it >= self.length for it in value.rows) if self.is_here else 0
             if outside:

@@ -119,6 +119,17 @@ class Scan(unittest.TestCase):
         self.assertIsNone(ran.poll(), "the scan ended before a worker was killed")
         self.assertLess(len(self.lines()), len(self.expected))
 
+    def wait_for_file(self, path):
+        """Waits until a file is present and has its last line."""
+        until = time.monotonic() + SECONDS
+        while time.monotonic() < until:
+            if os.path.exists(path):
+                with open(path, encoding="utf-8") as text:
+                    if text.read().rstrip().endswith("}"):
+                        return
+            time.sleep(0.1)
+        self.fail(f"{path} is not written")
+
     def ends(self, ran, status=1):
         """Waits for the end of the scan, and returns its output."""
         said = ran.communicate(timeout=SECONDS)[0].decode("utf-8", "replace")
@@ -166,9 +177,7 @@ class Scan(unittest.TestCase):
             how = {"stdout": subprocess.DEVNULL, "stderr": subprocess.DEVNULL, "cwd": self.work, "env": self.env}
             ran.append(subprocess.Popen(words, **how))
             self.addCleanup(self.stop, ran[-1])
-            until = time.monotonic() + SECONDS
-            while not os.path.exists(address) and time.monotonic() < until:
-                time.sleep(0.1)
+            self.wait_for_file(address)
         with open(address, encoding="utf-8") as text:
             scan = self.start(self.folder, "--scheduler", json.load(text)["address"], "--batch", "8")
         self.wait_for_lines(scan, 100)
