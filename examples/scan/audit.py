@@ -27,7 +27,8 @@ FRONT = 32
 # The durations that stand for an unknown one, in versions 0 and 1 of a header.
 UNKNOWN = (2**32 - 1, 2**64 - 1)
 # The boxes that are read into values. The fields of the others are read too, but only for faults.
-VALUES = {it: getattr(mp4_box_codec, it) for it in ("mvhd", "tkhd", "mdhd", "hdlr", "dref", *mp4_box_codec.TABLES)}
+VALUES = {it: getattr(mp4_box_codec, it.strip()) for it in ("mvhd", "tkhd", "mdhd", "hdlr", "url ")}
+VALUES.update(mp4_box_codec.TABLES)
 
 
 def seconds_of(header):
@@ -98,7 +99,8 @@ class Audit:
         in_track = self.tracks and box.path.startswith("moov/trak")
         if in_track and names[-2:-1] == ["stsd"] and box.code:
             self.tracks[-1]["codecs"].append(box.name)
-        value = self.value_of(box) if box.what == LEAF else None
+        # The `mp4a` in QuickTime's `wave` is no sample entry.
+        value = self.value_of(box) if box.what == LEAF and names[-2:] != ["wave", "mp4a"] else None
         if value is not None and box.path == "moov/mvhd":
             self.seconds = seconds_of(value)
         if value is not None and in_track:
@@ -112,8 +114,8 @@ class Audit:
             track["seconds"] = seconds_of(value)
         elif box.name == "hdlr" and "mdia" in names_of(box)[-2:]:
             track["kind"] = value.handler_type.to_bytes(4, "big").decode("latin-1")
-        elif box.name == "dref":
-            self.is_here = value.url is not None and value.url.flags & 1
+        elif box.name == "url ":
+            self.is_here = value.flags & 1 == 1
         elif box.name == "stsz":
             track["samples"] = value.sample_count
         elif box.name == "stz2":
