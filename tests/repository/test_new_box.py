@@ -11,6 +11,7 @@ More than MOST is a failure.
 
 With TEST_KEEP=FOLDER the copy is made in that folder, and stays.
 """
+import concurrent.futures
 import glob
 import os
 import re
@@ -259,8 +260,9 @@ class NewBox(unittest.TestCase):
         for crate in sorted({file.split("/")[1] for file in touched if file.startswith("crates/")}):
             run(os.path.join(folder, "crates", crate), "rt", "fmt")
         lines = sum(lines_of(folder, file) - lines_of(TOP, file) for file in touched)
-        for program in ("test_probe", "mp4_inspect"):
-            run(folder, sys.executable, "tools/building.py", "program", program, program)
+        with concurrent.futures.ThreadPoolExecutor() as builds:
+            programs = ("test_probe", "mp4_inspect")
+            list(builds.map(lambda it: run(folder, sys.executable, "tools/building.py", "program", it, it), programs))
         rows = f"tests.rows.test_rows.Rows.test_{NEW}_five_samples"
         run(folder, sys.executable, "-m", "unittest", rows, TEST_PROGRAMS=folder)
         with open(os.path.join(folder, "file"), "wb") as made:

@@ -4,7 +4,8 @@ parameter sets."""
 from tests.rows.entry_sizes import sizes_of_child, value_from
 from tests.rows.entry_values import AVC1, AVC1_OF_TEST, AVC1_OF_TEST_VALUE, AVC1_VALUE, avcc, visual
 from tests.rows.making import (
-    LARGEST, PAST_64_BITS, box, changed, counting, cuts, filled, invalid, large, one, round_trip, u8, u16, written_as,
+    LARGEST, PAST_64_BITS, box, changed, counting, cuts, fields, filled, invalid, large, one, round_trip, u8, u16, u32,
+    written_as,
 )
 
 CHILD = box(
@@ -57,3 +58,19 @@ def child_by_its_size():
 
 def child_that_ends_past_64_bits():
     yield one(box(b"avc1", AVC1[8:86], large(b"avcC", number=2**64 - 1), size=LARGEST), PAST_64_BITS)
+
+
+def fields_of_entry_and_configuration():
+    """ISO/IEC 14496-12, 12.1.3, and ISO/IEC 14496-15, 5.4.2.1."""
+    sets = u16(2) + u8(0x67, 6) + u8(1) + u16(3) + u8(0x68, 7, 8)
+    configuration = box(b"avcC", u8(1, 2, 3, 4, 0xFD, 0xE1), sets)
+    sizes = u16(2, 3) + u32(0x48_8000, 0x49_4000, 0)
+    yield fields(
+        box(b"avc1", bytes(6), u16(1), bytes(16), sizes, u16(4), bytes(32), u16(5, 0xFFFF), configuration),
+        data_reference_index=1, width=2, height=3, horizresolution=72.5, vertresolution=73.25, frame_count=4, depth=5,
+        avcc={
+            "configuration_version": 1, "avc_profile_indication": 2, "profile_compatibility": 3,
+            "avc_level_indication": 4, "length_size_minus_one": 1, "sequence_parameter_sets": ["6706"],
+            "picture_parameter_sets": ["680708"],
+        },
+    )

@@ -3,7 +3,7 @@ counts and lengths of sets, which differ from one another."""
 
 from tests.rows.entry_sizes import value_from
 from tests.rows.entry_values import AVCC, AVCC_VALUE, avcc, avcc_bytes
-from tests.rows.making import END, box, changed, counting, cuts, one, round_trip, u8, u16, written_as
+from tests.rows.making import END, box, changed, counting, cuts, fields, one, round_trip, u8, u16, written_as
 
 SEQUENCE = [counting(0x85, 0x86), counting(0x87, 0x87), counting(0x88, 0x8A)]
 PICTURE = [counting(0x8B, 0x8B), b"", counting(0x8C, 0x8F), counting(0x90, 0x91)]
@@ -89,3 +89,14 @@ def cut_anywhere():
 
 def any_size_is_its_own():
     yield from value_from(AVCC_VALUE, AVCC, 0)
+
+
+def fields_of_configuration():
+    """ISO/IEC 14496-15, 5.3.3.1."""
+    # Has ones before the size of lengths, which is 1, and before the number of sequence sets.
+    front = u8(1, 2, 3, 4, 0xFD, 0xE1)
+    yield fields(
+        box(b"avcC", front, u16(2), u8(0x67, 6), u8(1), u16(3), u8(0x68, 7, 8)), configuration_version=1,
+        avc_profile_indication=2, profile_compatibility=3, avc_level_indication=4, length_size_minus_one=1,
+        sequence_parameter_sets=["6706"], picture_parameter_sets=["680708"],
+    )

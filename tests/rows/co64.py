@@ -2,7 +2,7 @@
 0x85."""
 
 from tests.rows.making import (
-    box, counting, full, invalid, large_count, listed, one_row_short, round_trip, too_many, u32,
+    box, counting, fields, full, invalid, large_count, listed, one_row_short, round_trip, too_many, u32, u64,
 )
 from tests.rows.values import full_box
 
@@ -26,3 +26,9 @@ def large_counts():
 def text_of_a_count_without_room():
     text = "co64 entry_count indicates more entries than could fit in the box"
     yield listed(full(b"co64", u32(1)), invalid(text))
+
+
+def fields_of_two_chunks():
+    """ISO/IEC 14496-12, 8.7.5."""
+    given = full(b"co64", u32(2), u64(0x1_0000_0003, 4), version=1, flags=2)
+    yield fields(given, version=1, flags=2, entries=[4294967299, 4])

@@ -2,7 +2,7 @@
 count up from 0x85."""
 
 from tests.rows.making import (
-    box, counting, full, invalid, large_count, listed, one_row_short, round_trip, too_many, u32,
+    box, counting, fields, full, invalid, large_count, listed, one_row_short, round_trip, too_many, u32,
 )
 from tests.rows.values import full_box
 
@@ -29,3 +29,10 @@ def large_counts():
 def text_of_a_count_without_room():
     text = "ctts entry_count indicates more entries than could fit in the box"
     yield listed(full(b"ctts", u32(1)), invalid(text))
+
+
+def fields_of_two_runs():
+    """ISO/IEC 14496-12, 8.6.1.3."""
+    yield fields(full(b"ctts", u32(2, 3, 0xFFFFFFFC, 5, 6), version=1, flags=2), version=1, flags=2, entries=[
+        {"sample_count": 3, "sample_offset": -4}, {"sample_count": 5, "sample_offset": 6},
+    ])

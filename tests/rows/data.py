@@ -99,3 +99,15 @@ def fields_of_numbers():
     yield fields(box(b"data", u8(4), u24(21), u16(0, 0), b"\x05"), type_set=4, data_type=21, data_bytes="05")
     yield fields(box(b"data", u8(0), u24(21), u16(0, 0), b"\x01\x02\x03"), data_type=21,
                  data_type_name="signed integer", data_bytes="010203")
+
+
+def fields_of_own_types():
+    """QuickTime File Format, "Data atom"."""
+    yield fields(box(b"data", u32(0, 0), u8(1, 2)), data_type=0, data_type_name="binary", data_bytes="0102")
+    yield fields(box(b"data", u32(1, 0), b"abc"), data_type=1, data_type_name="text", text="abc")
+    yield fields(box(b"data", u32(13, 0), u8(3, 4)), data_type=13, data_type_name="JPEG", data_bytes="0304")
+    # Shows the two bytes too, since one byte is enough for the number.
+    yield fields(box(b"data", u32(21, 0), u8(0xFF, 0xFE)), data_type=21, data_type_name="signed integer", number=-2,
+                 number_hex="fffe")
+    yield fields(box(b"data", u32(21, 0), u8(0, 1, 2)), data_type=21, data_type_name="signed integer",
+                 data_bytes="000102")

@@ -2,7 +2,7 @@
 before or after the bytes that are read of them."""
 
 from tests.rows.making import (
-    CHILD_TOO_SMALL, END, LARGEST, LARGE_TOO_SMALL, NO_DREF, PAST_64_BITS, box, changed, counting, full, large,
+    CHILD_TOO_SMALL, END, LARGEST, LARGE_TOO_SMALL, NO_DREF, PAST_64_BITS, box, changed, counting, fields, full, large,
     larger_child, listed, one, resized, round_trip, u32,
 )
 from tests.rows.values import DINF_URL, dinf, dref, full_box, url
@@ -136,3 +136,10 @@ def references_among_thousands_of_boxes():
     yield one(box(b"dinf", *many, LAST), dinf(dref(None, flags=2)))
     yield one(box(b"dinf", LAST, *many), dinf(dref(None, flags=2)))
     yield one(box(b"dinf", *many), NO_DREF)
+
+
+def fields_of_the_reference_inside():
+    """ISO/IEC 14496-12, 8.7.1 and 8.7.2. The fields are those of the `url `."""
+    child = full(b"url ", b"file:a\0", version=3, flags=4)
+    given = box(b"dinf", full(b"dref", u32(1), child, version=1, flags=2))
+    yield fields(given, version=3, flags=4, location="file:a")

@@ -2,8 +2,8 @@
 or past the buffer, and end before or after the bytes that are read of them."""
 
 from tests.rows.making import (
-    CHILD_TOO_SMALL, END, LARGEST, LARGE_TOO_SMALL, PAST_64_BITS, box, changed, counting, full, large, larger_child,
-    listed, one, round_trip, u32,
+    CHILD_TOO_SMALL, END, LARGEST, LARGE_TOO_SMALL, PAST_64_BITS, box, changed, counting, fields, full, large,
+    larger_child, list_written_as, listed, one, round_trip, u32,
 )
 from tests.rows.values import DREF_URL, dref, full_box, url
 
@@ -78,6 +78,14 @@ def child_larger_than_its_parent_or_ending_past_it():
 def child_ending_past_its_parent_is_read():
     child = full(b"url ", b"abc\0")
     yield one(dref_bytes(1, child, 24), dref(url(location="abc")), after=24)
+
+
+def child_ending_past_its_parent_is_written_whole():
+    """In a list the last 8 bytes of the child are the header of a box of size 0, which goes to the end and is
+    skipped."""
+    child, value = full(b"url ", b"abc\0"), dref(url(location="abc"))
+    yield list_written_as(dref_bytes(1, child, 24), [value], dref_bytes(1, child, 32))
+    yield round_trip(dref_bytes(1, child, 32), value)
 
 
 def child_ending_before_what_is_read_of_it():
@@ -171,3 +179,8 @@ def entry_count_has_32_bits():
     for bit in range(1, 32):
         yield one(references(1 << bit, *children), dref(url(flags=2)))
     yield one(references(1, *children), dref(url(flags=1)))
+
+
+def fields_of_no_references():
+    """ISO/IEC 14496-12, 8.7.2."""
+    yield fields(full(b"dref", u32(0), version=1, flags=2), version=1, flags=2, entry_count=0)

@@ -1,8 +1,8 @@
 """`elst`, the edits of a track. After version, flags and count the bytes of the fields count up, from 0x85 or 0x84."""
 
 from tests.rows.making import (
-    any_size, box, counting, full, invalid, large_count, listed, one, one_row_short, round_trip, too_many, u8, u16, u32,
-    u64,
+    any_size, box, counting, fields, full, invalid, large_count, listed, one, one_row_short, round_trip, too_many, u8,
+    u16, u32, u64,
 )
 from tests.rows.values import elst, full_box
 
@@ -71,3 +71,16 @@ def edits_of_64_bits_have_no_room():
 
 def empty_table_of_any_size():
     yield from any_size(full(b"elst", u32(0)), full_box("elst", entries=[]))
+
+
+def fields_of_two_edits():
+    """ISO/IEC 14496-12, 8.6.6. An empty edit has the media time -1, of 32 bits in version 0."""
+    last = {"segment_duration": 5, "media_time": 6, "media_rate": -2, "media_rate_fraction": -7}
+    for version, number, media_time in [(0, u32, -1), (1, u64, 4294967295)]:
+        given = full(
+            b"elst", u32(2), number(3, 0xFFFFFFFF), u16(1, 4), number(5, 6), u16(0xFFFE, 0xFFF9), version=version,
+            flags=2,
+        )
+        yield fields(given, version=version, flags=2, entries=[
+            {"segment_duration": 3, "media_time": media_time, "media_rate": 1, "media_rate_fraction": 4}, last,
+        ])

@@ -1,8 +1,8 @@
 """`emsg`, an event. The bytes of the fields count up from 0x81, after the version except the strings."""
 
 from tests.rows.making import (
-    END, NOT_UTF8, TOO_SMALL, WRONG_VERSION, box, counting, full, listed, one, resized, round_trip, u8,
-    versions_above_1,
+    END, NOT_UTF8, TOO_SMALL, WRONG_VERSION, box, counting, fields, full, listed, one, resized, round_trip, u8, u32,
+    u64, versions_above_1,
 )
 from tests.rows.utf8 import CHARACTERS, OTHER_BYTES
 from tests.rows.values import EMSG, EMSG_LONG, emsg
@@ -79,3 +79,16 @@ def other_bytes_of_strings():
     for given in OTHER_BYTES:
         yield one(emsg_bytes(given, b"b"), NOT_UTF8)
         yield one(emsg_bytes(b"b", given), NOT_UTF8)
+
+
+def fields_of_both_versions():
+    """ISO/IEC 23009-1, 5.10.3.3."""
+    strings, texts = b"urn:a\0b\0", {"scheme_id_uri": "urn:a", "value": "b"}
+    yield fields(
+        full(b"emsg", u32(3), u64(0x1_0000_0004), u32(5, 8), strings, u8(6, 7), version=1, flags=2), version=1,
+        flags=2, **texts, timescale=3, presentation_time=4294967300, event_duration=5, id=8, message_data="0607",
+    )
+    yield fields(
+        full(b"emsg", strings, u32(3, 4, 5, 8), u8(6, 7), version=0, flags=2), version=0, flags=2, **texts,
+        timescale=3, presentation_time_delta=4, event_duration=5, id=8, message_data="0607",
+    )

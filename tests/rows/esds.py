@@ -6,8 +6,8 @@ from tests.rows.entry_values import (
     AUDIO_CONFIGURATIONS, ESDS, ESDS_VALUE, config, esds, esds_bytes, esds_bytes_of, esds_of, specific,
 )
 from tests.rows.making import (
-    END, LARGEST, PAST_64_BITS, box, changed, counting, invalid, large, one, resized, round_trip, u8, u16, u24, u32,
-    written_as,
+    END, LARGEST, PAST_64_BITS, box, changed, counting, fields, full, invalid, large, one, resized, round_trip, u8, u16,
+    u24, u32, written_as,
 )
 
 NOT_FOUND = invalid("ESDescriptor not found")
@@ -125,10 +125,15 @@ def other_tags():
 
 
 def descriptors_of_encoders():
-    """The last three bytes of the second audio configuration are read as a header of length 12928, and so as a gap to
+    """The last three bytes of the third audio configuration are read as a header of length 12928, and so as a gap to
     after the end."""
     decoder = u8(0x40, 0x15) + u24(0) + u32(128000, 128000)
-    for stream_length, decoder_length, content in [(0x22, 0x14, b"\x11\x90"), (0x25, 0x17, b"\x11\x90\x56\xe5\0")]:
+    for stream_length, decoder_length, content in [
+        (0x22, 0x14, b"\x11\x90"),
+        # The last three bits of an audio configuration are not read.
+        (0x22, 0x14, b"\x11\x97"),
+        (0x25, 0x17, b"\x11\x90\x56\xe5\0"),
+    ]:
         stream = b"\3\x80\x80\x80" + u8(stream_length) + u16(1) + u8(0)
         audio = b"\5\x80\x80\x80" + u8(len(content)) + content
         yield one(
@@ -265,7 +270,8 @@ def cut_descriptors():
 
 def audio_configurations():
     for *audio, content in AUDIO_CONFIGURATIONS:
-        yield round_trip(esds_bytes_of(1, 128000, content), esds_of(1, 128000, specific(*audio)))
+        for bitrate in (0, 128000):
+            yield round_trip(esds_bytes_of(1, bitrate, content), esds_of(1, bitrate, specific(*audio)))
 
 
 def other_bits_of_an_audio_configuration():
@@ -350,3 +356,23 @@ def every_other_tag_ends_the_streams():
     for tag in range(256):
         if tag != 3:
             yield one(esds_bytes(stream(1), bytes([tag, 0]), stream(2)), esds(1), headers=2)
+
+
+def fields_of_descriptors():
+    """ISO/IEC 14496-14, 5.6."""
+    # Has the stream type 5 in six bits, the direction 1 in one, and then a bit of 1.
+    decoder = u8(4, 0x17) + u24(7) + u32(8, 9)
+    # Has the bits 01010 1111, 13 in 24 bits, 1100 and three of padding; and 01010 1011 1100 and three of padding.
+    for content, specific_fields in [
+        (b"\x57\x80\x00\x06\xe0", {"profile": 10, "freq_index": 15, "sample_rate": 13, "chan_conf": 12}),
+        (b"\x55\xe0", {"profile": 10, "freq_index": 11, "chan_conf": 12}),
+    ]:
+        n = len(content)
+        inner = u8(4, 15 + n) + decoder + u8(5, n) + content
+        yield fields(
+            full(b"esds", u8(3, 23 + n), u16(3), u8(0), inner, u8(6, 1, 2), version=1, flags=2), version=1, flags=2,
+            es_desc={"es_id": 3, "dec_config": {
+                "object_type_indication": 4, "stream_type": 5, "up_stream": 2, "buffer_size_db": 7, "max_bitrate": 8,
+                "avg_bitrate": 9, "dec_specific": specific_fields,
+            }},
+        )

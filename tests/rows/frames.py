@@ -4,7 +4,7 @@ places of boxes."""
 from tests.rows import rows
 from tests.rows.making import (
     END, LARGE_TOO_SMALL, PAST_64_BITS, TOO_SMALL, Row, box, full, invalid, large, list_written_as, listed, one, placed,
-    refused, too_many, u32,
+    refused, too_many, u16, u32,
 )
 from tests.rows.values import ftyp, full_box
 
@@ -13,6 +13,8 @@ FTYP_VALUE = ftyp(b"isom", 512, [b"isom", b"mp41"])
 STCO = full(b"stco", u32(1, 267))
 STCO_VALUE = full_box("stco", entries=[267])
 THREE = FTYP + box(b"free") + STCO
+MFHD = full(b"mfhd", u32(1))
+MFHD_VALUE = full_box("mfhd", sequence_number=1)
 FREE = (0, 8, "free")
 # The codes that have names, as the layout table has them.
 CODES = """
@@ -44,6 +46,15 @@ def boxes_of_no_type_are_skipped():
         large(b"mdat", b"\1\2\3", number=0),
     ]:
         yield list_written_as(skipped, [], b"")
+
+
+def boxes_before_a_cut():
+    """The last box is whole, or is missing, or is cut after one byte."""
+    three = MFHD + box(b"free") + full(b"smhd", u16(0xFFFF, 0))
+    yield list_written_as(three, [MFHD_VALUE, full_box("smhd", balance=-1)], three[:16] + three[24:])
+    yield list_written_as(three[:24], [MFHD_VALUE], MFHD)
+    yield list_written_as(three[:16], [MFHD_VALUE], MFHD)
+    yield refused(three[:17], END)
 
 
 def reading_begins_at_the_position():
@@ -104,6 +115,8 @@ def size_of_0_goes_to_the_end():
     yield list_written_as(FTYP + box(b"mdat", b"\1\2\3", size=0), [FTYP_VALUE], FTYP)
     yield list_written_as(box(b"stco", STCO[8:], size=0), [STCO_VALUE], STCO)
     yield list_written_as(large(b"stco", STCO[8:], number=0), [STCO_VALUE], STCO)
+    yield list_written_as(box(b"mfhd", MFHD[8:], size=0), [MFHD_VALUE], MFHD)
+    yield list_written_as(large(b"mfhd", MFHD[8:], number=0), [MFHD_VALUE], MFHD)
 
 
 def sizes_that_are_too_small():
@@ -117,7 +130,9 @@ def sizes_that_are_too_small():
 
 def size_of_0_has_no_room_past_the_end():
     """The table has two rows, of which the buffer has one."""
-    yield listed(box(b"free") + box(b"stco", u32(0, 2, 267), size=0), too_many("stco"))
+    no_room = box(b"stco", u32(0, 2, 267), size=0)
+    yield listed(no_room, too_many("stco"))
+    yield listed(box(b"free") + no_room, too_many("stco"))
 
 
 def boxes_that_end_past_64_bits():

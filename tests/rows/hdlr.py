@@ -1,7 +1,7 @@
 """`hdlr`, the handler of a media. The bytes of the fields count up from 0x81, except the name."""
 
 from tests.rows.making import (
-    END, box, changed, counting, filled, full, invalid, listed, one, resized, round_trip, u32, written_as,
+    END, box, changed, counting, fields, filled, full, invalid, listed, one, resized, round_trip, u32, written_as,
 )
 from tests.rows.utf8 import CHARACTERS, OTHER_BYTES
 from tests.rows.values import HDLR, full_box, hdlr
@@ -35,6 +35,10 @@ def name_that_is_not_utf8():
     yield written_as(changed(COUNTED, {34: 0xFF}), counted("null"), counted_bytes(b"null\0"))
     given = full(b"hdlr", bytes(20), b"\xff\0")
     yield written_as(given, hdlr(name="null"), full(b"hdlr", bytes(20), b"null\0"))
+    front = u32(0) + b"vide" + bytes(12)
+    written = full(b"hdlr", front, b"null\0")
+    yield written_as(full(b"hdlr", front, b"\xff\0"), hdlr(b"vide", "null"), written)
+    yield round_trip(written, hdlr(b"vide", "null"))
 
 
 def hdlr_bytes(name):
@@ -62,7 +66,17 @@ def few_bytes():
         (short, 34, END),
     ]:
         yield one(resized(buffer, size), expected)
+    # In a list the box needs all of its bytes.
+    yield listed(resized(short, 33), END)
 
 
 def text_of_a_size_without_a_name():
     yield listed(full(b"hdlr", u32(0), b"vide", bytes(12)), TOO_SMALL)
+
+
+def fields_of_a_name_in_quotes():
+    """ISO/IEC 14496-12, 8.4.3."""
+    yield fields(
+        full(b"hdlr", u32(0), b"vide", bytes(12), b'a "b"\0', version=1, flags=2),
+        version=1, flags=2, handler_type="vide", name='a "b"',
+    )

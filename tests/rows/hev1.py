@@ -2,7 +2,9 @@
 
 from tests.rows.entry_sizes import sizes_of_child, value_from, with_child
 from tests.rows.entry_values import HEV1, HEV1_VALUE, visual
-from tests.rows.making import END, Box, box, changed, counting, cuts, filled, invalid, one, round_trip, u16, written_as
+from tests.rows.making import (
+    END, Box, box, changed, counting, cuts, fields, filled, invalid, one, round_trip, u8, u16, u32, written_as,
+)
 
 COUNTED = box(
     b"hev1", bytes(6), counting(0x81, 0x82), bytes(16), counting(0x83, 0x8E), bytes(4), counting(0x8F, 0x90),
@@ -41,3 +43,14 @@ def child_by_its_size():
 
 def child_of_a_size_of_1_without_its_large_size():
     yield one(with_child(HEV1, 1), END)
+
+
+def fields_of_entry_and_configuration():
+    """ISO/IEC 14496-15, 8.4.1.1."""
+    configuration = box(b"hvcC", u8(6))
+    sizes = u16(2, 3) + u32(0x48_8000, 0x49_4000, 0)
+    yield fields(
+        box(b"hev1", bytes(6), u16(1), bytes(16), sizes, u16(4), bytes(32), u16(5, 0xFFFF), configuration),
+        data_reference_index=1, width=2, height=3, horizresolution=72.5, vertresolution=73.25, frame_count=4, depth=5,
+        hvcc={"configuration_version": 6},
+    )

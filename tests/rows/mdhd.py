@@ -2,7 +2,7 @@
 Swedish."""
 
 from tests.rows.making import (
-    box, changed, counting, filled, full, one, round_trip, u8, u16, u32, u64, versions_above_1, written_as,
+    box, changed, counting, fields, filled, full, one, round_trip, u8, u16, u32, u64, versions_above_1, written_as,
 )
 from tests.rows.values import full_box
 
@@ -68,3 +68,17 @@ def every_letter_in_each_place():
         value = full_box("mdhd", language="".join(chr(0x60 + letter) for letter in letters), **TIMES)
         yield one(media_header(code), value)
         yield written_as(media_header(0x8000 | code), value, media_header(code))
+
+
+def fields_of_languages():
+    """ISO/IEC 14496-12, 8.4.2. Of QuickTime's languages the code is shown: 5 is one of the Macintosh, 0x7FFF none."""
+    # d is 4, e is 5, and u is 21: 4 * 1024 + 5 * 32 + 21 is 0x10B5.
+    for code, language in [
+        (0x10B5, {"language": "deu"}),
+        (5, {"language": 5, "language_name": "Macintosh"}),
+        (0x7FFF, {"language": 32767, "language_name": "unspecified"}),
+    ]:
+        yield fields(
+            full(b"mdhd", u64(3, 4), u32(5), u64(6), u16(code, 0), version=1, flags=2),
+            version=1, flags=2, creation_time=3, modification_time=4, timescale=5, duration=6, **language,
+        )

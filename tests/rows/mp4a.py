@@ -1,13 +1,13 @@
 """`mp4a`, the sample entry of MPEG-4 audio: its sizes, and children. The bytes of the fields count up from 0x81."""
 
 from tests.rows.entry_values import (
-    AUDIO_CONFIGURATIONS, ESDS, ESDS_VALUE, MP4A, MP4A_VALUE, MP4A_WITHOUT_ESDS, TEST_FIELDS, esds_bytes_of, esds_of,
-    mp4a, mp4a_bytes, specific,
+    AUDIO_CONFIGURATIONS, ESDS, ESDS_VALUE, MP4A, MP4A_OF_TEST, MP4A_OF_TEST_VALUE, MP4A_VALUE, MP4A_WITHOUT_ESDS,
+    MP4A_WITHOUT_ESDS_VALUE, TEST_FIELDS, esds_bytes_of, esds_of, mp4a, mp4a_bytes, specific,
 )
 from tests.rows.esds import COUNTED as COUNTED_ESDS, COUNTED_VALUE as COUNTED_ESDS_VALUE, NOT_FOUND
 from tests.rows.making import (
-    END, LARGEST, LARGE_TOO_SMALL, PAST_64_BITS, box, changed, counting, cuts, large, larger_child, listed, one,
-    resized, round_trip, u16, u32, written_as,
+    END, LARGEST, LARGE_TOO_SMALL, PAST_64_BITS, box, changed, counting, cuts, fields, full, large, larger_child,
+    listed, one, resized, round_trip, u8, u16, u24, u32, written_as,
 )
 from tests.rows.values import other
 
@@ -21,6 +21,11 @@ def every_field():
     yield round_trip(COUNTED, mp4a(*COUNTED_FIELDS))
     given = resized(COUNTED + COUNTED_ESDS, 75)
     yield round_trip(given, mp4a(*COUNTED_FIELDS, COUNTED_ESDS_VALUE))
+
+
+def entries_of_the_rust_crate():
+    yield round_trip(MP4A_OF_TEST, MP4A_OF_TEST_VALUE)
+    yield round_trip(MP4A_WITHOUT_ESDS, MP4A_WITHOUT_ESDS_VALUE)
 
 
 def reserved_bytes_are_ignored():
@@ -178,3 +183,19 @@ def fields_of_version_1_are_read_as_a_child():
         ]:
             yield one(quicktime(version, u32(*fields), ESDS), expected)
         yield one(quicktime(version, u32(1, 1, 0)), END)
+
+
+def fields_of_entry_and_descriptors():
+    """ISO/IEC 14496-12, 12.2.3."""
+    entry = bytes(6) + u16(21) + bytes(8) + u16(22, 23) + bytes(4) + u32(0xAC44_8000)
+    of_entry = {"data_reference_index": 21, "channelcount": 22, "samplesize": 23, "samplerate": 44100.5}
+    yield fields(box(b"mp4a", entry), **of_entry)
+    # Has the bits 000101 1 1 of the stream, and 01010 1011 1100 000 of the audio configuration.
+    decoder = u8(4, 17, 4, 0x17) + u24(7) + u32(8, 9) + u8(5, 2, 0x55, 0xE0)
+    descriptors = full(b"esds", u8(3, 25), u16(3), u8(0), decoder, u8(6, 1, 2), version=1, flags=2)
+    yield fields(box(b"mp4a", entry, descriptors), **of_entry, esds={
+        "version": 1, "flags": 2, "es_desc": {"es_id": 3, "dec_config": {
+            "object_type_indication": 4, "stream_type": 5, "up_stream": 2, "buffer_size_db": 7, "max_bitrate": 8,
+            "avg_bitrate": 9, "dec_specific": {"profile": 10, "freq_index": 11, "chan_conf": 12},
+        }},
+    })

@@ -1,7 +1,8 @@
 """`mvhd`, the header of a movie. The bytes of the fields count up from 0x81, after the version."""
 
 from tests.rows.making import (
-    WRONG_VERSION, box, counting, filled, full, listed, one, round_trip, u8, versions_above_1, written_as,
+    WRONG_VERSION, box, counting, fields, filled, full, listed, one, round_trip, u8, u16, u32, u64, versions_above_1,
+    written_as,
 )
 from tests.rows.values import LONG_MATRIX, SHORT_MATRIX, full_box
 
@@ -40,3 +41,18 @@ def other_versions():
 def fields_of_an_unknown_version_are_missing():
     yield one(full(b"mvhd", version=2, size=108), WRONG_VERSION)
     yield listed(full(b"mvhd", version=2), WRONG_VERSION)
+
+
+def fields_of_a_movie():
+    """ISO/IEC 14496-12, 8.2.2. The rate and the volume have a sign."""
+    matrix = u32(0x18000, 0xFFFE0000, 0x40000000, 0x34000, 0x42000, 0xE0000000, 0x51000, 0x60800, 0x70000000)
+    given = full(
+        b"mvhd", u64(3, 4), u32(5), u64(6), u32(0xFFFF8000), u16(0xFF40), bytes(10), matrix, bytes(24), u32(7),
+        version=1, flags=2,
+    )
+    yield fields(
+        given, version=1, flags=2, creation_time=3, modification_time=4, timescale=5, duration=6, rate=-0.5,
+        volume=-0.75,
+        matrix={"a": 1.5, "b": -2.0, "u": 1.0, "c": 3.25, "d": 4.125, "v": -0.5, "x": 5.0625, "y": 6.03125, "w": 1.75},
+        next_track_id=7,
+    )

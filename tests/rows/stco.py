@@ -2,8 +2,8 @@
 0x85."""
 
 from tests.rows.making import (
-    END, LARGEST, any_size, box, counting, full, invalid, large_count, listed, one, one_row_short, round_trip, too_many,
-    u32,
+    END, LARGEST, any_size, box, counting, fields, full, invalid, large_count, listed, one, one_row_short, round_trip,
+    too_many, u32,
 )
 from tests.rows.values import full_box
 
@@ -45,3 +45,8 @@ def one_chunk():
 
 def empty_table_of_any_size():
     yield from any_size(full(b"stco", u32(0)), full_box("stco", entries=[]))
+
+
+def fields_of_two_chunks():
+    """ISO/IEC 14496-12, 8.7.5."""
+    yield fields(full(b"stco", u32(2, 3, 4), version=1, flags=2), version=1, flags=2, entries=[3, 4])

@@ -2,7 +2,8 @@
 count up, from 0x81 and from 0x11; the first chunks differ by a few, so that the first samples fit."""
 
 from tests.rows.making import (
-    END, any_size, box, counting, full, invalid, large_count, listed, one, one_row_short, round_trip, too_many, u32,
+    END, any_size, box, counting, fields, full, invalid, large_count, listed, one, one_row_short, round_trip, too_many,
+    u32,
 )
 from tests.rows.values import full_box, stsc
 
@@ -104,3 +105,11 @@ def samples_of_a_thousand_runs():
     value = stsc(*((*run, sample) for run, sample in zip(given, samples)))
     yield round_trip(runs(*given), value)
     yield one(runs(*given, (MANY - 1, 1)), OVERFLOW)
+
+
+def fields_of_two_runs():
+    """ISO/IEC 14496-12, 8.7.4. The first samples are computed: four chunks of four samples are before the second."""
+    yield fields(full(b"stsc", u32(2, 3, 4, 5, 7, 8, 9), version=1, flags=2), version=1, flags=2, entries=[
+        {"first_chunk": 3, "samples_per_chunk": 4, "sample_description_index": 5, "first_sample": 1},
+        {"first_chunk": 7, "samples_per_chunk": 8, "sample_description_index": 9, "first_sample": 17},
+    ])

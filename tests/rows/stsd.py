@@ -5,8 +5,8 @@ from tests.rows.entry_values import (
     MP4A_VALUE, MP4A_WITHOUT_ESDS, MP4A_WITHOUT_ESDS_VALUE, TX3G, TX3G_VALUE, VP09, VP09_VALUE, mp4a, stsd, stsd_bytes,
 )
 from tests.rows.making import (
-    END, LARGEST, PAST_64_BITS, box, changed, counting, cuts, full, large, larger_child, one, round_trip, u32,
-    written_as,
+    END, LARGEST, PAST_64_BITS, box, changed, counting, cuts, fields, full, large, larger_child, one, round_trip, u16,
+    u32, written_as,
 )
 from tests.rows.mp4a import COUNTED as COUNTED_ENTRY, COUNTED_FIELDS as COUNTED_ENTRY_FIELDS
 
@@ -147,3 +147,14 @@ def entry_may_end_before_its_box():
     for name, (entry, value) in ENTRIES.items():
         for rest in (b"\0", bytes(7), bytes(100), b"\0\0\0\2free"):
             yield one(full(b"stsd", u32(1), entry, rest), stsd(**{name: value}))
+
+
+def fields_of_descriptions():
+    """ISO/IEC 14496-12, 8.5.2."""
+    yield fields(full(b"stsd", u32(0), version=31, flags=32), version=31, flags=32, entry_count=0)
+    entry = box(b"mp4a", bytes(6), u16(21), bytes(8), u16(22, 23), bytes(4), u32(0xAC44_8000))
+    # Compares the fields of the entry, since it is inside.
+    yield fields(
+        full(b"stsd", u32(1), entry, version=31, flags=32), data_reference_index=21, channelcount=22, samplesize=23,
+        samplerate=44100.5,
+    )

@@ -1,7 +1,7 @@
 """`stss`, the numbers of sync samples. After version, flags and count the bytes of the fields count up from 0x85."""
 
 from tests.rows.making import (
-    box, counting, full, invalid, large_count, listed, one_row_short, round_trip, too_many, u32,
+    box, counting, fields, full, invalid, large_count, listed, one_row_short, round_trip, too_many, u32,
 )
 from tests.rows.values import full_box
 
@@ -24,3 +24,8 @@ def large_counts():
 def text_of_a_count_without_room():
     text = "stss entry_count indicates more entries than could fit in the box"
     yield listed(full(b"stss", u32(1)), invalid(text))
+
+
+def fields_of_two_sync_samples():
+    """ISO/IEC 14496-12, 8.6.2."""
+    yield fields(full(b"stss", u32(2, 3, 4), version=1, flags=2), version=1, flags=2, entries=[3, 4])

@@ -1,7 +1,7 @@
 """`stsz`, the sizes of samples. After version, flags and counts the bytes of the fields count up from 0x85."""
 
 from tests.rows.making import (
-    any_size, box, counting, full, large_count, listed, one_row_short, round_trip, too_many, u32,
+    any_size, box, counting, fields, full, large_count, listed, one_row_short, round_trip, too_many, u32,
 )
 from tests.rows.values import full_box
 
@@ -41,3 +41,15 @@ def text_of_a_count_without_room():
 
 def empty_table_of_any_size():
     yield from any_size(full(b"stsz", u32(0, 0)), full_box("stsz", sample_size=0, sample_count=0, sample_sizes=[]))
+
+
+def fields_of_one_size_and_of_two():
+    """ISO/IEC 14496-12, 8.7.3.2."""
+    yield fields(
+        full(b"stsz", u32(3, 4), version=1, flags=2),
+        version=1, flags=2, sample_size=3, sample_count=4, sample_sizes=[],
+    )
+    yield fields(
+        full(b"stsz", u32(0, 2, 5, 6), version=1, flags=2),
+        version=1, flags=2, sample_size=0, sample_count=2, sample_sizes=[5, 6],
+    )

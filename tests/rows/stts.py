@@ -1,7 +1,7 @@
 """`stts`, the durations of samples. After version, flags and count the bytes of the fields count up from 0x85."""
 
 from tests.rows.making import (
-    box, counting, full, invalid, large_count, listed, one_row_short, round_trip, too_many, u32,
+    box, counting, fields, full, invalid, large_count, listed, one_row_short, round_trip, too_many, u32,
 )
 from tests.rows.values import full_box
 
@@ -28,3 +28,10 @@ def large_counts():
 def text_of_a_count_without_room():
     text = "stts entry_count indicates more entries than could fit in the box"
     yield listed(full(b"stts", u32(1)), invalid(text))
+
+
+def fields_of_two_runs():
+    """ISO/IEC 14496-12, 8.6.1.2."""
+    yield fields(full(b"stts", u32(2, 3, 4, 5, 6), version=1, flags=2), version=1, flags=2, entries=[
+        {"sample_count": 3, "sample_delta": 4}, {"sample_count": 5, "sample_delta": 6},
+    ])

@@ -1,6 +1,6 @@
 """`tfdt`, the decode time of a track fragment. The bytes of the fields count up from 0x81, after the version."""
 
-from tests.rows.making import box, counting, round_trip, u8, versions_above_1
+from tests.rows.making import box, counting, fields, full, round_trip, u8, u64, versions_above_1
 from tests.rows.values import full_box
 
 SHORT = box(b"tfdt", u8(0), counting(0x81, 0x87))
@@ -14,3 +14,9 @@ def every_field():
 
 def other_versions():
     yield from versions_above_1(LONG)
+
+
+def fields_of_a_late_time():
+    """ISO/IEC 14496-12, 8.8.12."""
+    given = full(b"tfdt", u64(0x1_0000_0003), version=1, flags=2)
+    yield fields(given, version=1, flags=2, base_media_decode_time=4294967299)

@@ -1,7 +1,7 @@
 """`tfhd`, the header of a track fragment. A field is present if its flag is set: each flag by itself, and all together.
 Other bits are set beside them. After the flags the bytes of the fields count up from 0x82."""
 
-from tests.rows.making import counting, full, round_trip, u32, u64
+from tests.rows.making import counting, fields, full, round_trip, u32, u64
 from tests.rows.values import full_box
 
 FIELDS = (
@@ -42,3 +42,13 @@ def all_fields_without_other_flags():
         "tfhd", flags=0x3B, track_id=1, base_data_offset=2**33, sample_description_index=2, default_sample_duration=3,
         default_sample_size=4, default_sample_flags=5,
     ))
+
+
+def fields_of_all_flags_and_of_none():
+    """ISO/IEC 14496-12, 8.8.7."""
+    yield fields(
+        full(b"tfhd", u32(2), u64(0x1_0000_0003), u32(4, 5, 6, 0x10007), version=1, flags=0x3B),
+        version=1, flags=59, track_id=2, base_data_offset=4294967299, sample_description_index=4,
+        default_sample_duration=5, default_sample_size=6, default_sample_flags=65543,
+    )
+    yield fields(full(b"tfhd", u32(2), version=1, flags=0), version=1, flags=0, track_id=2)

@@ -1,6 +1,8 @@
 """`tkhd`, the header of a track. The bytes of the fields count up from 0x81, after the version."""
 
-from tests.rows.making import box, counting, filled, full, round_trip, u8, u16, u32, versions_above_1, written_as
+from tests.rows.making import (
+    box, counting, fields, filled, full, round_trip, u8, u16, u32, u64, versions_above_1, written_as,
+)
 from tests.rows.values import LONG_MATRIX, SHORT_MATRIX, full_box
 
 SHORT = box(
@@ -50,3 +52,18 @@ def matrix_of_small_numbers():
         duration=0x0D0E0F10, layer=0x1112, alternate_group=0x1314, volume=0x1516, matrix=matrix, width=0x17181920,
         height=0x21222324,
     ))
+
+
+def fields_of_a_track():
+    """ISO/IEC 14496-12, 8.3.2. The layer, the group and the volume have a sign."""
+    matrix = u32(0x18000, 0xFFFE0000, 0x40000000, 0x34000, 0x42000, 0xE0000000, 0x51000, 0x60800, 0x70000000)
+    given = full(
+        b"tkhd", u64(2, 3), u32(4, 0), u64(5), bytes(8), u16(0xFFFA, 0xFFF9, 0x0180, 0), matrix,
+        u32(0x02804000, 0x01688000), version=1, flags=7,
+    )
+    yield fields(
+        given, version=1, flags=7, creation_time=2, modification_time=3, track_id=4, duration=5, layer=-6,
+        alternate_group=-7, volume=1.5,
+        matrix={"a": 1.5, "b": -2.0, "u": 1.0, "c": 3.25, "d": 4.125, "v": -0.5, "x": 5.0625, "y": 6.03125, "w": 1.75},
+        width=640.25, height=360.5,
+    )

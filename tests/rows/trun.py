@@ -2,7 +2,7 @@
 Other bits are set beside them. After the flags and the count the bytes of the fields count up from 0x82."""
 
 from tests.rows.making import (
-    END, counting, full, large_count, listed, one, one_row_short, resized, round_trip, too_many, u32,
+    END, counting, fields, full, large_count, listed, one, one_row_short, resized, round_trip, too_many, u32,
 )
 from tests.rows.values import TRUN, trun
 
@@ -94,3 +94,15 @@ def rows_of_two_lists_have_no_room():
     yield one(two_lists, TOO_MANY)
     yield one(two_lists[:16], END)
     yield one(resized(two_lists, 36), END)
+
+
+def fields_of_two_samples():
+    """ISO/IEC 14496-12, 8.8.8. The offsets have a sign in version 1."""
+    samples = u32(5, 7, 0x10009, 11, 6, 8, 10, 0xFFFFFFF4)
+    for version, offset in [(0, 4294967284), (1, -12)]:
+        yield fields(
+            full(b"trun", u32(2, 0xFFFFFFFD, 0x10004), samples, version=version, flags=0xF05),
+            version=version, flags=3845, sample_count=2, data_offset=-3, first_sample_flags=65540,
+            sample_durations=[5, 6], sample_sizes=[7, 8], sample_flags=[65545, 10], sample_cts=[11, offset],
+        )
+    yield fields(full(b"trun", u32(2, 7, 8), flags=0x200), version=0, flags=512, sample_count=2, sample_sizes=[7, 8])

@@ -2,7 +2,7 @@
 
 from tests.rows.entry_sizes import value_from
 from tests.rows.entry_values import TX3G, TX3G_VALUE
-from tests.rows.making import Box, box, changed, counting, cuts, filled, round_trip, written_as
+from tests.rows.making import Box, box, changed, counting, cuts, fields, filled, round_trip, u8, u16, u32, written_as
 
 COUNTED = box(b"tx3g", bytes(6), counting(0x81, 0xA0))
 
@@ -38,3 +38,16 @@ def cut_anywhere():
 
 def any_size_is_its_own():
     yield from value_from(TX3G_VALUE, TX3G, 0)
+
+
+def fields_of_entry():
+    """3GPP TS 26.245, 5.16."""
+    colour = u8(10, 11, 12, 13)
+    # Has the signed numbers -2 and 3, and then -6, 7, 8 and -9.
+    front = bytes(6) + u16(1) + u32(0x2_0000) + u8(0xFE, 3) + colour + u16(0xFFFA, 7, 8, 0xFFF7)
+    yield fields(
+        box(b"tx3g", front, counting(14, 25)), data_reference_index=1, display_flags=131072,
+        horizontal_justification=-2, vertical_justification=3,
+        bg_color_rgba={"red": 10, "green": 11, "blue": 12, "alpha": 13}, box_record=[-6, 7, 8, -9],
+        style_record="0e0f10111213141516171819",
+    )

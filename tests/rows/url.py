@@ -26,6 +26,7 @@ def one_letter():
 
 def empty_location_is_the_same_file():
     yield written_as(full(b"url ", b"\0", flags=1), url(flags=1), full(b"url ", flags=1))
+    yield round_trip(full(b"url ", flags=1), url(flags=1))
 
 
 def location_that_is_not_utf8():

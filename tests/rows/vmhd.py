@@ -1,6 +1,6 @@
 """`vmhd`, the header of a video media. The bytes of the fields count up from 0x81."""
 
-from tests.rows.making import box, counting, full, round_trip, u16
+from tests.rows.making import box, counting, fields, full, round_trip, u16
 from tests.rows.values import full_box
 
 
@@ -14,3 +14,11 @@ def colors():
     color = {"red": 1, "green": 2, "blue": 3}
     value = full_box("vmhd", flags=1, graphics_mode=0, op_color=color)
     yield round_trip(full(b"vmhd", u16(0, 1, 2, 3), flags=1), value)
+
+
+def fields_of_a_color():
+    """ISO/IEC 14496-12, 12.1.2."""
+    yield fields(
+        full(b"vmhd", u16(3, 4, 5, 6), version=1, flags=2),
+        version=1, flags=2, graphics_mode=3, op_color={"red": 4, "green": 5, "blue": 6},
+    )

@@ -2,7 +2,7 @@
 
 from tests.rows.entry_sizes import sizes_of_child, value_from
 from tests.rows.entry_values import VP09, VP09_VALUE
-from tests.rows.making import box, changed, counting, cuts, one, round_trip
+from tests.rows.making import box, changed, counting, cuts, fields, full, one, round_trip, u8, u16
 from tests.rows.values import full_box
 
 COUNTED = box(b"vp09", counting(0x81, 0xCE), box(b"vpcC", counting(0xCF, 0xDA)))
@@ -38,3 +38,20 @@ def child_larger_than_its_entry():
 
 def child_by_its_size():
     yield from sizes_of_child(VP09_VALUE, VP09)
+
+
+def fields_of_entry_and_configuration():
+    """VP Codec ISO Media File Format Binding, "VP9 Sample Entry"."""
+    configuration = full(b"vpcC", u8(3, 4, 0x5D, 7, 8, 9), u16(10), version=1, flags=2)
+    sizes = u16(5, 6, 72, 0x8000, 73, 0x4000) + 4 * b"\x20" + u16(7)
+    front = u16(3, 4) + 16 * b"\x10" + sizes + 32 * b"\x30" + u16(8, 9)
+    yield fields(
+        full(b"vp09", front, configuration, version=1, flags=2), version=1, flags=2, start_code=3,
+        data_reference_index=4, reserved0=16 * "10", width=5, height=6, horizresolution=72.5, vertresolution=73.25,
+        reserved1=4 * "20", frame_count=7, compressorname=32 * "30", depth=8, end_code=9,
+        vpcc={
+            "version": 1, "flags": 2, "profile": 3, "level": 4, "bit_depth": 5, "chroma_subsampling": 6,
+            "video_full_range_flag": 1, "color_primaries": 7, "transfer_characteristics": 8, "matrix_coefficients": 9,
+            "codec_initialization_data_size": 10,
+        },
+    )

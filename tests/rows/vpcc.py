@@ -2,7 +2,7 @@
 
 from tests.rows.entry_sizes import value_from
 from tests.rows.entry_values import VPCC, VPCC_VALUE
-from tests.rows.making import box, changed, counting, cuts, round_trip
+from tests.rows.making import box, changed, counting, cuts, fields, full, round_trip, u8, u16
 from tests.rows.values import full_box
 
 COUNTED = box(b"vpcC", counting(0x81, 0x8C))
@@ -38,9 +38,28 @@ def each_bit_of_three_fields():
         yield round_trip(changed(COUNTED, {14: byte}), value)
 
 
+def wide_colors():
+    given = full(b"vpcC", u8(0, 0x1F, 0x80, 9, 16, 9), u16(0), version=1)
+    yield round_trip(given, full_box(
+        "vpcC", 1, profile=0, level=31, bit_depth=8, chroma_subsampling=0, video_full_range_flag=False,
+        color_primaries=9, transfer_characteristics=16, matrix_coefficients=9, codec_initialization_data_size=0,
+    ))
+
+
 def cut_anywhere():
     yield from cuts(VPCC)
 
 
 def any_size_is_its_own():
     yield from value_from(VPCC_VALUE, VPCC, 0)
+
+
+def fields_of_both_ranges():
+    """VP Codec ISO Media File Format Binding, "VP Codec Configuration Box"."""
+    # Has 5 in four bits, 6 in three bits, and the range in the last bit of the third byte.
+    for video_full_range_flag, bits in [(1, 0x5D), (0, 0x5C)]:
+        yield fields(
+            full(b"vpcC", u8(3, 4, bits, 7, 8, 9), u16(10), version=1, flags=2), version=1, flags=2, profile=3,
+            level=4, bit_depth=5, chroma_subsampling=6, video_full_range_flag=video_full_range_flag, color_primaries=7,
+            transfer_characteristics=8, matrix_coefficients=9, codec_initialization_data_size=10,
+        )
