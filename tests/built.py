@@ -19,6 +19,14 @@ class Failed(Exception):
     pass
 
 
+class NamesSkipped:
+    """Test cases that print which tests they skip and why. Without -v unittest prints only their number."""
+
+    def skipTest(self, reason):
+        print(f"{self.id()} is skipped: {reason}", file=sys.stderr)
+        super().skipTest(reason)
+
+
 def number(name, default):
     """Returns the number in the environment variable TEST_`name`, or `default` if there is none."""
     return int(os.environ.get(f"TEST_{name}") or default)

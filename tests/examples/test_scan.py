@@ -24,7 +24,7 @@ import tempfile
 import time
 import unittest
 
-from tests.built import TOP, codec, for_binding, library, source
+from tests.built import TOP, NamesSkipped, codec, for_binding, library, source
 from tests.files.inspected import files
 
 EXAMPLE = os.path.join(TOP, "examples", "scan")
@@ -70,7 +70,7 @@ def children(of):
     return {number: words for number, (parent, words) in found.items() if parent == of}
 
 
-class Scan(unittest.TestCase):
+class Scan(NamesSkipped, unittest.TestCase):
     @classmethod
     def setUpClass(cls):
         cls.work = tempfile.mkdtemp(prefix="scan-")

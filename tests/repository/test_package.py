@@ -15,6 +15,7 @@ Tests skip what this machine lacks, and name it. The programs and the library ar
 TEST_LIBRARY if they are set. With TEST_ANEW=1 both copies compile them."""
 
 import base64
+import functools
 import hashlib
 import os
 import re
@@ -30,7 +31,7 @@ import urllib.request
 import venv
 import zipfile
 
-from tests.built import TOP, built, for_binding, library, source
+from tests.built import TOP, NamesSkipped, built, for_binding, library, source
 from tests.files.stored import stored
 from tests.repository.test_install import EXAMPLE, files_below, made_library
 
@@ -61,9 +62,15 @@ def succeeds(*words, **how):
 
 
 def needs(tool, package=None):
-    """Skips a test on machines without `tool`."""
-    missing = f"{tool} is not on this machine (apt-get install {package or tool})"
-    return unittest.skipUnless(shutil.which(tool), missing)
+    """Returns a decorator that skips a test on machines without `tool`."""
+    def decorate(test):
+        @functools.wraps(test)
+        def run(self):
+            if not shutil.which(tool):
+                self.skipTest(f"{tool} is not on this machine (apt-get install {package or tool})")
+            test(self)
+        return run
+    return decorate
 
 
 def copied(folder):
@@ -90,7 +97,7 @@ def sum_of(path):
         return hashlib.sha256(file.read()).hexdigest()
 
 
-class Packages(unittest.TestCase):
+class Packages(NamesSkipped, unittest.TestCase):
     @classmethod
     def setUpClass(cls):
         cls.work = tempfile.mkdtemp(prefix="package-")
