@@ -86,9 +86,13 @@ def edits():
     return found
 
 
-def read_gate(said, logic):
+def read_gate(said, logic, name=None):
     """Checks that the text `said` is that of a gate which passed in this tree: it proves each crate, and refuses each
-    wrong body. `logic` begins the sum of the kit's logic. Raises Failed otherwise."""
+    wrong body. `logic` begins the sum of the kit's logic. If the text is that of `tests/run`, `name` is the commit that
+    it has to name. Raises Failed otherwise."""
+    if name and not re.search(rf"^run: commit {name}$", said, re.M):
+        other = re.search(r"^run: commit (.*)$", said, re.M)
+        raise building.Failed(f"the gate ran at the commit {other[1] if other else 'unknown'}, and not at {name}")
     last = re.findall(r"^(\d+) passed, (\d+) failed(.*)$", said, re.M)
     if not last or last[-1][1:] != ("0", "") or not re.search(r"^rt: ok; ", said, re.M):
         raise building.Failed(f"the gate did not pass: its last line is {' '.join(last[-1]) if last else 'missing'}")

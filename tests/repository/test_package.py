@@ -432,21 +432,22 @@ class Release(unittest.TestCase):
         self.log, self.folder = os.path.join(self.work, "gate.log"), os.path.join(self.work, self.id())
         crates, edits = [*building.read_crates()], proving.edits()
         self.logic = source_of(self.home, "KIT-ID").split()[-1]
+        self.commit = succeeds("git", "rev-parse", "HEAD", cwd=self.top).strip()
         self.said = [f"logic=proved functions=27 sum={self.logic} native=nat", f"rt: {crates[0]} proved"]
         self.said += [f"rt: {it} is kept: an earlier run proved the same" for it in crates[1:]]
         self.said += [f"rt: must-fail {it}.edit: refused, as it must be: src/a.rt:1:1: error" for it in edits]
         self.said += ["rt: ok; handles allowed: none", f"{len(crates) + len(edits)} passed, 0 failed"]
 
-    def package(self, said=None):
-        """Runs tools/package with the output of a gate. Returns its status and its output."""
+    def package(self, said=None, commit=None):
+        """Runs tools/package with the output of a gate at a commit. Returns its status and its output."""
         with open(self.log, "w", encoding="utf-8") as text:
-            text.write("\n".join(said or self.said) + "\n")
+            text.write("\n".join([f"run: commit {commit or self.commit}", *(said or self.said)]) + "\n")
         words = [os.path.join(self.top, "tools", "package"), self.folder, "--gate", self.log]
         ran = subprocess.run(words, env=self.env, stdout=subprocess.PIPE, stderr=subprocess.STDOUT, check=False)
         return ran.returncode, ran.stdout.decode("utf-8", "replace")
 
-    def refuses(self, text, said=None):
-        status, told = self.package(said)
+    def refuses(self, text, said=None, commit=None):
+        status, told = self.package(said, commit)
         self.assertEqual((status, text in told), (1, True), told)
         self.assertFalse(os.path.exists(self.folder))
 
@@ -482,6 +483,10 @@ class Release(unittest.TestCase):
             self.assertRaises(building.Failed, proving.read_gate, kept, self.logic)
         self.refuses("says nothing of the proof of", [it for it in self.said if "mp4_frame " not in it])
         self.refuses("did not have the prover refuse", [it.replace("refused", "NOT REFUSED") for it in self.said])
+
+    def test_gate_at_another_commit(self):
+        self.refuses("the gate ran at the commit 0123abc, and not at", commit="0123abc")
+        self.refuses(f"the gate ran at the commit {self.commit}, with changes", commit=f"{self.commit}, with changes")
 
     def test_gate_of_another_tree_or_kit(self):
         self.refuses("this tree has others", [*self.said[:-1], "1000 passed, 0 failed"])
