@@ -19,6 +19,14 @@ class Failed(Exception):
     pass
 
 
+class NamesSkipped:
+    """Test cases that print which tests they skip and why. Without -v unittest prints only their number."""
+
+    def skipTest(self, reason):
+        print(f"{self.id()} is skipped: {reason}", file=sys.stderr)
+        super().skipTest(reason)
+
+
 def number(name, default):
     """Returns the number in the environment variable TEST_`name`, or `default` if there is none."""
     return int(os.environ.get(f"TEST_{name}") or default)
@@ -70,9 +78,15 @@ def library():
     return folder
 
 
+def for_binding(path):
+    """Returns the variables with which the module of bindings/python loads the library at `path`, and none that is
+    installed."""
+    return {"MP4_BOX_CODEC_LIB": path, "PKG_CONFIG_LIBDIR": "/nonexistent", "PKG_CONFIG_PATH": ""}
+
+
 def codec():
     """Returns the module of bindings/python, over the library for C."""
-    os.environ["MP4_BOX_CODEC_LIB"] = os.path.join(library(), "libmp4_box_codec.so.0")
+    os.environ.update(for_binding(os.path.join(library(), "libmp4_box_codec.so.0")))
     sys.path.insert(0, os.path.join(TOP, "bindings", "python"))
     return importlib.import_module("mp4_box_codec")
 

@@ -23,8 +23,13 @@ A fault is an Mp4Error, whose `status` is a number of the header `mp4_box_codec.
 Traceback (most recent call last):
 mp4_box_codec.Mp4Error: unexpected end of input
 
-The module looks for the library in the file that the variable MP4_BOX_CODEC_LIB names, in the folders `lib` of
-Python's prefix and of tools/install, and then in the folders in which the system has its libraries.
+The module takes the first of these libraries that it finds:
+
+- that of its wheel, beside the module;
+- that of the folder which pkg-config names;
+- the file that the variable MP4_BOX_CODEC_LIB names;
+- that of the folder `lib` of Python's prefix or of tools/install;
+- that of the system's folders.
 """
 
 import array
@@ -34,6 +39,8 @@ import ctypes.util
 import json
 import operator
 import os
+import re
+import subprocess
 import sys
 from typing import Any, Callable, Dict, Iterator, List, NamedTuple, Optional, Tuple, Type, Union
 
@@ -354,16 +361,32 @@ class _Bytes:
         ctypes.pythonapi.PyBuffer_Release(ctypes.byref(self.buffer))
 
 
+# The name of the library's file.
+_FILE = "libmp4_box_codec.so.0"
+
+
+def _configured() -> str:
+    """Returns the path of the library in the folder that pkg-config names, or an empty path if it names none."""
+    words = ["pkg-config", "--variable=libdir", "mp4_box_codec"]
+    try:
+        ran = subprocess.run(words, stdin=subprocess.DEVNULL, stdout=subprocess.PIPE, stderr=subprocess.DEVNULL)
+    except OSError:
+        return ""
+    # pkg-config writes a backslash before characters that are special to the shell.
+    folder = re.sub(r"\\(.)", r"\1", os.fsdecode(ran.stdout).rstrip("\n"))
+    return os.path.join(folder, _FILE) if ran.returncode == 0 and os.path.isabs(folder) else ""
+
+
 def _places() -> Iterator[str]:
+    """Yields the paths of libraries in the order in which the module takes them."""
+    yield from filter(os.path.isfile, [os.path.join(os.path.dirname(__file__), "mp4_box_codec.libs", _FILE)])
+    yield from filter(os.path.isfile, [_configured()])
     given = os.environ.get("MP4_BOX_CODEC_LIB")
     if given:
         yield given
-        return
-    for prefix in (sys.prefix, os.path.expanduser("~/.local"), "/usr/local"):
-        path = os.path.join(prefix, "lib", "libmp4_box_codec.so.0")
-        if os.path.exists(path):
-            yield path
-    yield ctypes.util.find_library("mp4_box_codec") or "libmp4_box_codec.so.0"
+    prefixes = (sys.prefix, os.path.expanduser("~/.local"), "/usr/local")
+    yield from filter(os.path.isfile, [os.path.join(prefix, "lib", _FILE) for prefix in prefixes])
+    yield ctypes.util.find_library("mp4_box_codec") or _FILE
 
 
 def _is_for(version: int, module: str) -> bool:
@@ -373,7 +396,8 @@ def _is_for(version: int, module: str) -> bool:
 
 
 def _load() -> ctypes.CDLL:
-    path, remedy = next(_places()), "run tools/install, or set MP4_BOX_CODEC_LIB to libmp4_box_codec.so.0"
+    path = next(_places())
+    remedy = f"install the wheel, run tools/install, or set MP4_BOX_CODEC_LIB to {_FILE}"
     try:
         library = ctypes.CDLL(path)
         library.mp4_version.argtypes, library.mp4_version.restype = (), u32

@@ -11,7 +11,7 @@ import sys
 import tempfile
 import unittest
 
-from tests.built import TOP, library, source
+from tests.built import TOP, for_binding, library, source
 
 RUST = os.path.join("bindings", "rust")
 
@@ -110,10 +110,10 @@ class Rust(Bindings):
 
 
 class Python(Bindings):
-    def python(self, *words, **more):
-        env = {**os.environ, "MP4_BOX_CODEC_LIB": os.path.join(self.library, "libmp4_box_codec.so.0"),
-               "PYTHONDONTWRITEBYTECODE": "1", **more}
-        return self.succeeds(sys.executable, *words, cwd=os.path.join(TOP, "bindings", "python"), env=env)
+    def python(self, *words, folder=os.path.join(TOP, "bindings", "python"), **more):
+        variables = for_binding(os.path.join(self.library, "libmp4_box_codec.so.0"))
+        env = {**os.environ, **variables, "PYTHONDONTWRITEBYTECODE": "1", **more}
+        return self.succeeds(sys.executable, *words, cwd=folder, env=env)
 
     def test_module(self):
         self.python("-m", "unittest", "test_mp4_box_codec", "test_numbers")
@@ -125,11 +125,10 @@ class Python(Bindings):
     def test_examples_of_the_page(self):
         self.python("-m", "doctest", os.path.join(TOP, "docs", "PYTHON.md"))
 
-    def refused(self, path, text):
-        """Imports the module with the library at `path`, and expects that it refuses the library with the text
-        `text`."""
+    def refused(self, path, text, **more):
+        """Imports the module with the library at `path`, and expects that it refuses a library with the text `text`."""
         said = self.python("-c", "try:\n    import mp4_box_codec\nexcept ImportError as why:\n    print(why)\n"
-                           "else:\n    print('it is imported')", MP4_BOX_CODEC_LIB=path).decode()
+                           "else:\n    print('it is imported')", MP4_BOX_CODEC_LIB=path, **more).decode()
         self.assertIn(text, said)
         self.assertIn("tools/install", said)
 
@@ -139,6 +138,30 @@ class Python(Bindings):
     def test_library_of_another_version(self):
         other = self.other_version()
         self.refused(other, f"{other} is version 0.2.7, and this module needs version 0.1.x")
+
+    def no_library(self, *folders):
+        """Writes a file that can't be loaded, under the name of the library, and returns its path."""
+        path = os.path.join(self.folder, *folders, "libmp4_box_codec.so.0")
+        os.makedirs(os.path.dirname(path), exist_ok=True)
+        with open(path, "w", encoding="ascii") as text:
+            text.write("no library")
+        return path
+
+    @unittest.skipUnless(version_of("pkg-config"), "pkg-config is not on this machine")
+    def test_library_of_pkg_config_before_that_of_the_variable(self):
+        configured = self.no_library("it's \"my\" folder", "lib")
+        with open(os.path.join(self.folder, "mp4_box_codec.pc"), "w", encoding="utf-8") as text:
+            libdir = re.sub(r"([ '\"])", r"\\\1", os.path.dirname(configured))
+            text.write(f"libdir={libdir}\n\nName: x\nDescription: x\nVersion: 1\nLibs: -L${{libdir}}\n")
+        self.refused("/none", f"{configured} can't be loaded", PKG_CONFIG_PATH=self.folder)
+        os.remove(configured)
+        self.refused("/none", "/none can't be loaded", PKG_CONFIG_PATH=self.folder)
+
+    def test_library_beside_the_module_before_all_others(self):
+        # The wheel has the library there.
+        beside = self.no_library("mp4_box_codec.libs")
+        shutil.copy(os.path.join(TOP, "bindings", "python", "mp4_box_codec.py"), self.folder)
+        self.refused("/none", f"{beside} can't be loaded", folder=self.folder)
 
 
 if __name__ == "__main__":
