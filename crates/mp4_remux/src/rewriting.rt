@@ -1,11 +1,12 @@
-//! The command `faststart`, which writes a file with its `moov` before its media data. It writes a new file beside the
-//! target and renames it once it is complete, so the target is whole or unchanged.
+//! The commands that write one file. They write a new file beside the target and rename it once it is complete, so the
+//! target is whole or unchanged.
 
 use crate::destination::{Destination, Node, NodeKind, choose_destination, partial_beside};
+use crate::job::{Done, Job, write_job};
 use crate::outcome::Outcome;
 use crate::progress::Progress;
+use crate::stop::Stop;
 use mp4_command::{Kept, MISUSE, escaped};
-use mp4_faststart::{Move, Stop, write_fast_start};
 use mp4_io::{Failure, Output, Steady, is_closed_pipe};
 use std::fs::{File, Metadata, OpenOptions, Permissions};
 use std::io::{ErrorKind, IsTerminal, Write};
@@ -15,32 +16,32 @@ use std::{fs, io};
 
 /// The names of the two files.
 #[derive(Clone, Copy)]
-struct Names<'a> {
+pub struct Names<'a> {
     /// The name of the file that is read.
-    from: &'a str,
+    pub from: &'a str,
     /// The name of the file that is written.
-    to: &'a str,
+    pub to: &'a str,
     /// `from` with its control characters escaped, for messages.
-    shown_from: &'a str,
+    pub shown_from: &'a str,
     /// `to` with its control characters escaped, for messages.
-    shown_to: &'a str,
+    pub shown_to: &'a str,
 }
 
 /// The file that is read, opened twice, since the old file and the new one are read at the same time.
 #[derive(Drop)]
-struct Opened {
+pub struct Opened {
     /// The file.
-    first: Kept<File>,
+    pub first: Kept<File>,
     /// The same file.
-    second: Kept<File>,
+    pub second: Kept<File>,
     /// The length of the file.
-    length: u64,
+    pub length: u64,
     /// Its permissions.
-    mode: u32,
+    pub mode: u32,
 }
 
 /// Prints to standard error what is wrong with a file. Its name in messages is `shown`.
-fn tell(rt: &HostRuntime, shown: &str, error: &io::Error) -> Outcome {
+pub fn tell(rt: &HostRuntime, shown: &str, error: &io::Error) -> Outcome {
     let _ = eprintln!(rt; "mp4remux: {shown}: {error}");
     Outcome::Failed
 }
@@ -68,7 +69,7 @@ fn read_error(opened: Opened) -> Option<io::Error> {
 }
 
 /// Prints to standard error why a file was not written. `opened` and `write_error` have the last errors of both files.
-fn tell_stop(
+pub fn tell_stop(
     rt: &HostRuntime,
     names: Names<'_>,
     stop: &Stop,
@@ -138,8 +139,9 @@ fn write_everything<W: Write>(
     first: &mut Kept<File>,
     second: &mut Kept<File>,
     output: &mut Output<Steady<Progress<W>>>,
-) -> Result<Option<Move>, Stop> {
-    let run = write_fast_start(rt.alloc(), first, second, output);
+    job: Job,
+) -> Result<Done, Stop> {
+    let run = write_job(rt.alloc(), job, first, second, output);
     output.inner.inner.clear();
     run
 }
@@ -149,25 +151,19 @@ fn write_file(
     rt: &HostRuntime,
     opened: &mut Opened,
     output: &mut Output<Steady<Progress<File>>>,
-) -> Result<Option<Move>, Stop> {
-    let moved = write_everything(rt, &mut opened.first, &mut opened.second, output)?;
+    job: Job,
+) -> Result<Done, Stop> {
+    let done = write_everything(rt, &mut opened.first, &mut opened.second, output, job)?;
     if let Err(error) = output.inner.inner.inner.sync_all() {
         output.inner.error = Some(error);
         return Err(Stop::Failed(Failure::Write));
     }
-    Ok(moved)
+    Ok(done)
 }
 
 /// Prints what was written to the file whose name in messages is `shown`.
-fn tell_done(rt: &HostRuntime, shown: &str, done: Option<Move>) -> Result<Outcome, Failure> {
-    let told = match done {
-        Some(moved) => println!(rt;
-            "{shown}: moov is moved from {} to {}",
-            moved.begin, moved.insert
-        ),
-        None => println!(rt; "{shown}: a copy, as no media data are before the moov"),
-    };
-    match told {
+pub fn tell_done(rt: &HostRuntime, shown: &str, done: Done) -> Result<Outcome, Failure> {
+    match println!(rt; "{shown}: {done}") {
         Ok(()) => Ok(Outcome::Written),
         Err(error) if is_closed_pipe(&error) => Ok(Outcome::Written),
         Err(_) => Err(Failure::Write),
@@ -185,13 +181,14 @@ fn put_in_place(
     fs::rename(rt, partial, target)
 }
 
-/// Writes the file that is read with its `moov` before its media data to the path `target`, first into a file of
-/// another name. The new file gets the permissions of the file that is read.
+/// Writes the new file to the path `target`, first into a file of another name. The new file gets the permissions of
+/// the file that is read.
 fn write_to(
     rt: &HostRuntime,
     names: Names<'_>,
     target: &str,
     mut opened: Opened,
+    job: Job,
 ) -> Result<Outcome, Failure> {
     let (file, partial) = match create_beside(rt, target) {
         Ok(created) => created,
@@ -199,7 +196,7 @@ fn write_to(
     };
     let permissions = Permissions::from_mode(opened.mode & 0o777);
     let mut output = Output::new(Steady::new(Progress::new(rt, file, opened.length)));
-    let run = write_file(rt, &mut opened, &mut output);
+    let run = write_file(rt, &mut opened, &mut output, job);
     let outcome = Outcome::of_run(&run);
     let done = match run {
         Ok(done) => done,
@@ -216,12 +213,13 @@ fn write_to(
     tell_done(rt, names.shown_to, done)
 }
 
-/// Writes the file that is read, which is the node `source`, to the file to which the name `names.to` leads.
+/// Writes the new file to the file to which the name `names.to` leads. The file that is read is the node `source`.
 fn write_named(
     rt: &HostRuntime,
     names: Names<'_>,
     opened: Opened,
     source: Node,
+    job: Job,
 ) -> Result<Outcome, Failure> {
     let found = match node_at(rt, names.to) {
         Ok(found) => found,
@@ -236,15 +234,15 @@ fn write_named(
         }
     };
     match path_of(rt, names.to, destination) {
-        Ok(target) => write_to(rt, names, target.as_str(), opened),
+        Ok(target) => write_to(rt, names, target.as_str(), opened, job),
         Err(error) => Ok(tell(rt, names.shown_to, &error)),
     }
 }
 
-/// Writes the file that is read with its `moov` before its media data to the standard output.
-fn write_to_pipe(rt: &HostRuntime, names: Names<'_>, mut opened: Opened) -> Outcome {
+/// Writes the new file to the standard output.
+fn write_to_pipe(rt: &HostRuntime, names: Names<'_>, mut opened: Opened, job: Job) -> Outcome {
     let mut output = Output::new(Steady::new(Progress::new(rt, rt.stdout(), opened.length)));
-    let run = write_everything(rt, &mut opened.first, &mut opened.second, &mut output);
+    let run = write_everything(rt, &mut opened.first, &mut opened.second, &mut output, job);
     let outcome = Outcome::of_run(&run);
     if let Err(stop) = run {
         tell_stop(rt, names, &stop, opened, output.inner.error);
@@ -271,7 +269,7 @@ fn open_twice(rt: &HostRuntime, name: &str) -> io::Result<(Opened, Metadata)> {
 
 /// Opens the file that is read, and returns it with its node. If that fails or it is not a regular file, prints a line
 /// to standard error and returns `None`. A FIFO is not opened, since that would wait for a writer.
-fn open_source(rt: &HostRuntime, names: Names<'_>) -> Option<(Opened, Node)> {
+pub fn open_source(rt: &HostRuntime, names: Names<'_>) -> Option<(Opened, Node)> {
     let shown = names.shown_from;
     let opened = match fs::metadata(rt, names.from) {
         Ok(metadata) => {
@@ -296,20 +294,28 @@ fn open_source(rt: &HostRuntime, names: Names<'_>) -> Option<(Opened, Node)> {
 }
 
 /// Prints a misuse of the command line to standard error, and returns its status.
-fn misuse(rt: &HostRuntime, what: &str) -> u8 {
+pub fn misuse(rt: &HostRuntime, what: &str) -> u8 {
     let _ = eprintln!(rt; "mp4remux: -: {what}");
     MISUSE
 }
 
-/// Writes the boxes of the file `from` to the file `to`, with the `moov` before the media data, or leaves `to` as it
-/// was. If `to` is `-`, writes to the standard output. Returns the exit status: 1 if `from` is refused, and 2 if `from`
-/// is `-`.
-pub fn fast_start(rt: &HostRuntime, from: &str, to: &str) -> Result<u8, Failure> {
+/// Returns whether `from` can be read twice. If it is `-`, prints a misuse to standard error.
+pub fn is_input(rt: &HostRuntime, from: &str) -> bool {
     if from == "-" {
-        return Ok(misuse(
+        misuse(
             rt,
             "IN must be a file, since it is read twice; ./- is a file of this name",
-        ));
+        );
+        return false;
+    }
+    true
+}
+
+/// Writes what `job` makes of the file `from` to the file `to`, or leaves `to` as it was. If `to` is `-`, writes to the
+/// standard output. Returns the exit status: 1 if `from` is refused, and 2 if `from` is `-`.
+pub fn rewrite(rt: &HostRuntime, job: Job, from: &str, to: &str) -> Result<u8, Failure> {
+    if !is_input(rt, from) {
+        return Ok(MISUSE);
     }
     if to == "-" && rt.stdout().is_terminal() {
         return Ok(misuse(
@@ -328,7 +334,7 @@ pub fn fast_start(rt: &HostRuntime, from: &str, to: &str) -> Result<u8, Failure>
         return Ok(Outcome::Failed.status());
     };
     if to == "-" {
-        return Ok(write_to_pipe(rt, names, opened).status());
+        return Ok(write_to_pipe(rt, names, opened, job).status());
     }
-    Ok(write_named(rt, names, opened, node)?.status())
+    Ok(write_named(rt, names, opened, node, job)?.status())
 }
