@@ -18,6 +18,7 @@ import random
 import re
 import resource
 import shutil
+import signal
 import subprocess
 import tempfile
 import time
@@ -227,8 +228,7 @@ def check_form(name, before, after, lead, segments=False):
     tops = [it[0] for it in boxes(after, 0, len(after), True)]
     if tops[0] != b"ftyp" or b"iso6" not in top(after, b"ftyp")[2]:
         fail(f"{name}: {tops}")
-    if inner(after, top(after, b"moov"))[-1][0] != b"mvex" and b"mvex" not in [
-            it[0] for it in inner(after, top(after, b"moov"))]:
+    if b"mvex" not in [it[0] for it in inner(after, top(after, b"moov"))]:
         fail(f"{name}: there is no mvex")
     for tables in table_boxes(after):
         codes = [it[0] for it in tables]
@@ -341,7 +341,7 @@ class Runs:
         if (done.returncode, done.stdout, done.stderr) != (status, out, error):
             fail(f"{words}: {done.returncode}, {done.stdout!r}, {done.stderr!r}\nand not\n{status}, {out!r}, {error!r}")
 
-    def there_and_back(self, name, data, lead=1, fragments=None, options=(), joined_again=True):
+    def there_and_back(self, name, data, lead=1, fragments=None, options=()):
         """Fragments the file `data`, joins the fragments, and compares the samples of all three files. Returns the
         fragmented file."""
         self.write("in.mp4", data)
@@ -428,7 +428,7 @@ def forms(runs, random_, count):
     runs.there_and_back("two descriptions", made(random_, [
         Track(1, video([6, 6]), descriptions=[1, 2, 2, 1]), Track(2, sound(20), b"soun", descriptions=[2, 1, 1, 2])]))
     runs.there_and_back("offsets of 64 bits", made(random_, [Track(1, video([6, 6]), wide=True)]), 1, 2)
-    runs.there_and_back("no edits of samples without bytes", made(random_, [Track(1, video([3, 3], size=0))]), 1, 2)
+    runs.there_and_back("a sample without bytes", made(random_, [Track(1, video([3, 3], size=0))]), 1, 2)
     runs.there_and_back("no sync sample", made(random_, [Track(1, [[(5, 10, 0, False)] * 4])]), 1, 1)
     runs.there_and_back("the first is no sync sample", made(random_, [
         Track(1, [[(5, 10, 0, False)] * 2 + video([2, 2])[0]])]), 1)
@@ -448,7 +448,8 @@ def forms(runs, random_, count):
     if after.count(b"sbgp") != 5:
         fail(f"the groups of fragments: {after.count(b'sbgp')}")
     for sdtp in (bytes(range(13)), bytes([0x20] + [0x18] * 12)):
-        runs.there_and_back("dependencies", made(random_, [Track(1, video([5, 5, 3]), extra=full(b"sdtp", 0, 0, sdtp))]))
+        item = Track(1, video([5, 5, 3]), extra=full(b"sdtp", 0, 0, sdtp))
+        runs.there_and_back("dependencies", made(random_, [item]))
     # How long fragments are.
     long = made(random_, [Track(1, video([5] * 10))])
     for seconds, fragments in (("0.1", 10), ("0.5", 10), ("0.50000001", 5), ("1", 5), ("1.000000000", 5), ("1.2", 4),
@@ -494,8 +495,9 @@ def joined(runs, random_):
 
     def joins(name, data, count=2, expected=None):
         runs.write("frag.mp4", data)
-        runs.says(0, f"back.mp4: {count} fragments joined, {sum(len(it) for _, it in expected or wanted)} samples\n",
-                  "", "defragment", "frag.mp4", "back.mp4")
+        total = sum(len(it) for _, it in expected or wanted)
+        runs.says(0, f"back.mp4: {count} fragment{'' if count == 1 else 's'} joined, {total} samples\n", "",
+                  "defragment", "frag.mp4", "back.mp4")
         back = runs.read("back.mp4")
         check_joined(name, data, back)
         if samples_of(back) != (expected or wanted):
@@ -510,10 +512,8 @@ def joined(runs, random_):
         if back[back.index(b"mdhd") + 20:][:4] != be(4, 1000):
             fail("the duration of the media is not set")
     # A traf without a tfdt begins where the one before it ends.
-    for number_ in range(2):
-        changed = plain.replace(b"tfdt", b"free")
-        joins("no tfdt", changed)
-    joins("boxes between", plain.replace(b"moof", b"moof") + box(b"free", b"x") + box(b"mfra"))
+    joins("no tfdt", plain.replace(b"tfdt", b"free"))
+    joins("boxes behind", plain + box(b"free", b"x") + box(b"mfra"))
     # Samples in tables, and then in fragments.
     tables = made(random_, [Track(1, video([5]))])
     extended = nested((b"mvex",), full(b"trex", 0, 0, be(4, 1, 1, 0, 0, 0)))
@@ -525,11 +525,7 @@ def joined(runs, random_):
         b"trun", 0, 0x701, be(4, 2, 100) + rows)))
     moof = moof.replace(be(4, 2, 100) + rows, be(4, 2, len(moof) + 8) + rows)
     both = tables + moof + box(b"mdat", b"abcdefghi")
-    joins("tables and fragments", both, 1, samples_of(both)) if False else None
-    runs.write("frag.mp4", both)
-    runs.says(0, "back.mp4: 1 fragment joined, 7 samples\n", "", "defragment", "frag.mp4", "back.mp4")
-    if samples_of(runs.read("back.mp4")) != samples_of(both):
-        fail("tables and fragments: a sample is changed")
+    joins("tables and fragments", both, 1, samples_of(both))
 
 
 def refused(runs, random_):
@@ -539,11 +535,11 @@ def refused(runs, random_):
     moov = top(plain, b"moov")
     traks = [it[1] for it in inner(plain, moov) if it[0] == b"trak"]
     for command in ("fragment", "defragment"):
-        runs.refuses(command, b"", "there is no moov" if command == "fragment" else "the file is not fragmented")
-        runs.refuses(command, plain[:-1], f"there is no whole box at {moov[1]}" if command == "fragment" else
-                     "the file is not fragmented")
+        runs.refuses(command, b"", "there is no moov")
+        runs.refuses(command, plain[:moov[1]], "there is no moov")
+        runs.refuses(command, plain[:-1], f"there is no whole box at {moov[1]}")
+        runs.refuses(command, plain + plain[moov[1]:], f"there is another moov at {len(plain)}")
     runs.refuses("defragment", plain, "the file is not fragmented")
-    runs.refuses("fragment", plain + plain[moov[1]:], f"there is another moov at {len(plain)}")
     runs.refuses("fragment", made(random_, [Track(1, [])]), "no track has samples")
     runs.refuses("fragment", ftyp(b"isom") + movie(), "no track has samples")
     runs.write("in.mp4", plain)
@@ -572,12 +568,8 @@ def refused(runs, random_):
     # Samples that are not in the file, and samples that share bytes.
     at = plain.index(b"stco") + 12
     outside = plain[:at] + be(4, len(plain)) + plain[at + 4:]
-    runs.refuses("fragment", outside, f"trak 1 at {traks[0]}: sample 1 at {len(plain)}, of 10 bytes, is not in the file")
-    big = made(random_, [Track(1, [[(200, 10, 0, True)] * 2, [(400, 10, 0, True)]])])
-    at = big.index(b"stco") + 12
-    shared = big[:at] + be(4, 40, 40) + big[at + 8:]
-    if 800 > len(shared):
-        fail("the file is too short")
+    runs.refuses("fragment", outside, f"trak 1 at {traks[0]}: sample 1 at {len(plain)}, of 10 bytes, is not in the"
+                 " file")
     many = made(random_, [Track(1, [[(400, 10, 0, True)]] * 5)])
     at = many.index(b"stco") + 12
     media = top(many, b"mdat")
@@ -586,8 +578,8 @@ def refused(runs, random_):
     at = short.index(b"stco") + 12
     short = short[:at] + be(4, *[media[4]] * 5) + short[at + 20:]
     trak = [it[1] for it in inner(short, top(short, b"moov")) if it[0] == b"trak"][0]
-    runs.refuses("fragment", short, f"trak 1 at {trak}: up to sample {len(short) // 400 + 1} the samples have more bytes"
-                 " than the file, so some share bytes")
+    runs.refuses("fragment", short, f"trak 1 at {trak}: up to sample {len(short) // 400 + 1} the samples have more"
+                 " bytes than the file, so some share bytes")
     # Fragments that tables can't express.
     traks = [it[1] for it in inner(fragmented, top(fragmented, b"moov")) if it[0] == b"trak"]
     at = fragmented.index(b"tfdt") + 8
@@ -610,13 +602,9 @@ def refused(runs, random_):
                      " kept")
     emsg = full(b"emsg", 0, 0, b"\0\0" + bytes(16))
     runs.refuses("defragment", fragmented + emsg, f"emsg at {len(fragmented)}: what it says of samples can't be kept")
-    moof = fragmented.index(b"moof") - 4
-    lost = fragmented.replace(full(b"tfhd", 0, 0, b"")[4:8] + bytes(1), b"tfhd" + bytes(1))
     trex = fragmented.index(b"trex") + 8
     data = fragmented[:trex] + be(4, 7) + fragmented[trex + 4:]
     runs.refuses("defragment", data, "there is no trex")
-    if lost != fragmented or moof < 0:
-        fail("the file is changed")
 
 
 def segmented(runs, random_):
@@ -661,14 +649,10 @@ def segmented(runs, random_):
     os.remove(runs.path("bad.mp4"))
     # A write fails in a segment.
     def little():
+        signal.signal(signal.SIGXFSZ, signal.SIG_IGN)
         resource.setrlimit(resource.RLIMIT_FSIZE, (300, 300))
-    done = runs.run("fragment", "--segments", "short", "in.mp4", preexec_fn=little)
-    if done.returncode in (0, 1, 2) or "short" in os.listdir(runs.folder):
-        fail(f"a write fails: {done.returncode}, {done.stderr}")
-    for name in [it for it in os.listdir(runs.folder) if it.endswith(".partial")]:
-        if done.returncode > 0:
-            fail("a partial folder is left")
-        shutil.rmtree(runs.path(name))
+    runs.says(3, "", "mp4remux: short: write failed: File too large (os error 27)\n", "fragment", "--segments", "short",
+              "in.mp4", preexec_fn=little)
     if sorted(os.listdir(runs.folder)) != before:
         fail(f"files are left: {os.listdir(runs.folder)}")
 
@@ -717,24 +701,17 @@ def hostile(runs, random_):
     # 2^32 - 1 samples of one byte in each of many chunks, or of no bytes in a run.
     plain = made(random_, [Track(1, [[(1, 1, 0, True)]] * 1000)])
     at = plain.index(b"stsz") + 8
-    size = int.from_bytes(plain[at - 12 + 4 - 4:at - 4], "big") if False else len(be(4, *range(1000)))
-    head = plain[:at] + be(4, 1, 2**32 - 1) + plain[at + 8:]
-    at = head.index(b"stts") - 4
-    stts = full(b"stts", 0, 0, be(4, 1, 2**32 - 1, 1))
-    long = int.from_bytes(head[at:at + 4], "big")
-    head = head[:at] + stts + box(b"free", bytes(long - len(stts) - 8)) + head[at + long:]
-    at = head.index(b"stsc") - 4
-    stsc = full(b"stsc", 0, 0, be(4, 1, 1, 5000000, 1))
-    long = int.from_bytes(head[at:at + 4], "big")
-    head = head[:at] + stsc + box(b"free", bytes(long - len(stsc) - 8)) + head[at + long:]
-    ends("many samples", "fragment", head, "samples, and has only")
+    many = plain[:at] + be(4, 1, 2**32 - 1) + plain[at + 8:]
+    for table in (full(b"stts", 0, 0, be(4, 1, 2**32 - 1, 1)), full(b"stsc", 0, 0, be(4, 1, 1, 5000000, 1))):
+        at = many.index(table[4:8]) - 4
+        long = int.from_bytes(many[at:at + 4], "big")
+        many = many[:at] + table + box(b"free", bytes(long - len(table) - 8)) + many[at + long:]
+    ends("many samples", "fragment", many, "samples, and has only")
     run = full(b"trun", 0, 1, be(4, 2**32 - 1, 8))
     moof = box(b"moof", full(b"mfhd", 0, 0, be(4, 1)) + box(b"traf", full(b"tfhd", 0, 0x20000, be(4, 1)) + run))
     extended = nested((b"mvex",), full(b"trex", 0, 0, be(4, 1, 1, 0, 0, 0)))
     moov = box(b"moov", top(plain, b"moov")[2] + extended)
     ends("many samples of a run", "defragment", ftyp(b"isom") + moov + moof * 1000, "samples, and has only")
-    if not size:
-        fail("no size")
 
 
 def hashes(path, *words):

@@ -114,7 +114,7 @@ impl<'a> Cursor<'a> {
         alloc: Global,
         first: &Sample,
         end: Option<Time>,
-        data: &mut Ranges,
+        media: &mut Ranges,
         budget: &mut Budget,
     ) -> Result<Run, Stop> {
         let mut run = Run::new(alloc, self.id, first);
@@ -127,7 +127,7 @@ impl<'a> Cursor<'a> {
             }
             budget.take(&sample, self.place, self.passed.saturating_add(1))?;
             run.push(&sample, self.dependencies_of(&sample))?;
-            data.push(sample.offset, u64::from(sample.size))?;
+            media.push(sample.offset, u64::from(sample.size))?;
             self.pass(&sample);
         }
         run.take_groups(alloc, &mut self.groups)?;
@@ -140,14 +140,14 @@ impl<'a> Cursor<'a> {
         alloc: Global,
         end: Option<Time>,
         runs: &mut Vec<Run>,
-        data: &mut Ranges,
+        media: &mut Ranges,
         budget: &mut Budget,
     ) -> Result<(), Stop> {
         for _ in 0..u64::MAX {
             let Some(first) = self.next_before(end) else {
                 break;
             };
-            let run = self.take_run(alloc, &first, end, data, budget)?;
+            let run = self.take_run(alloc, &first, end, media, budget)?;
             runs.push(run)?;
         }
         Ok(())

@@ -10,7 +10,7 @@ use crate::movie_copy::{
 };
 use crate::new_bytes::{media_header_length, push_media_header, set_u32, set_u64};
 use crate::new_tables::{NewTables, push_chunk_offsets};
-use crate::obstacles::check_boxes;
+use crate::obstacles::{check_boxes, check_tops};
 use crate::refusal::{Refusal, Stop, in_fragments};
 use crate::times::Time;
 use crate::tops::{Side, first_top, push_kept};
@@ -172,8 +172,7 @@ fn tables_of<S: Source>(
     groups: &FragmentGroups,
     places: &mut Vec<ChunkPlace>,
     budget: &mut Budget,
-) -> Result<(Vec<u8>, TableFacts), Stop>
-{
+) -> Result<(Vec<u8>, TableFacts), Stop> {
     let known = dependencies_of(alloc, walk, part)?;
     let dependencies = all_dependencies(known, track.count(), fragments)?;
     let mut tables = NewTables::new(alloc, track.place, index);
@@ -211,8 +210,7 @@ fn all_tables<S: Source>(
     parts: &[TrackParts],
     fragments: Groups,
     length: u64,
-) -> Result<AllTables, Stop>
-{
+) -> Result<AllTables, Stop> {
     let groups = fragment_groups(alloc, walk, boxes)?;
     let mut budget = Budget::new(length);
     let mut all = AllTables {
@@ -287,8 +285,7 @@ fn movie_with<S: Source>(
     all: &mut AllTables,
     durations: &Durations,
     is_wide: bool,
-) -> Result<CopiedMovie, Stop>
-{
+) -> Result<CopiedMovie, Stop> {
     let facts = all.facts.as_slice();
     for (index, bytes) in all.tables.iter_mut().enumerate() {
         if let Some(known) = facts.get(index) {
@@ -343,8 +340,7 @@ fn front_of<S: Source>(
     walk: &mut BoxWalk<S>,
     boxes: &[TreeBox],
     movie: u64,
-) -> Result<Plan, Stop>
-{
+) -> Result<Plan, Stop> {
     let mut plan = Plan::new(alloc);
     if let Some(ftyp) = first_top(boxes, codes::FTYP) {
         plan.push(Piece::Old {
@@ -362,8 +358,7 @@ fn length_after<S: Source>(
     walk: &mut BoxWalk<S>,
     boxes: &[TreeBox],
     movie: u64,
-) -> Result<u64, Stop>
-{
+) -> Result<u64, Stop> {
     let mut plan = Plan::new(alloc);
     push_kept(alloc, walk, boxes, movie, Side::After, &mut plan)?;
     Ok(plan.length())
@@ -390,8 +385,7 @@ fn plan_file<S: Source>(
     boxes: &[TreeBox],
     all: &mut AllTables,
     durations: &Durations,
-) -> Result<Plan, Stop>
-{
+) -> Result<Plan, Stop> {
     let Some(moov) = first_top(boxes, codes::MOOV) else {
         return Err(Stop::Refused(Refusal::NoMovie));
     };
@@ -436,8 +430,7 @@ fn plan_joined<S: Source>(
     groups: Groups,
     length: u64,
     count: u64,
-) -> Result<Defragmented, Stop>
-{
+) -> Result<Defragmented, Stop> {
     let parts = parts_of(alloc, boxes)?;
     let scale = match movie_scale(alloc, walk, boxes) {
         Ok(scale) => scale,
@@ -462,8 +455,9 @@ pub fn plan_tables<S: Source>(alloc: Global, source: S) -> Result<Defragmented, 
     let mut source = source;
     let length = source.length()?;
     let mut movie = Movie::open(alloc, source)?;
-    let tracks = read_tracks(alloc, &mut movie)?;
+    check_tops(movie.boxes())?;
     let count = count_fragments(movie.boxes())?;
+    let tracks = read_tracks(alloc, &mut movie)?;
     let groups = match fragments_of(alloc, &mut movie) {
         Ok(groups) => groups,
         Err(error) => return Err(in_fragments(error)),

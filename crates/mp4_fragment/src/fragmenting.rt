@@ -8,7 +8,7 @@ use crate::fragment_part::FragmentPart;
 use crate::moof::push_moof;
 use crate::movie_copy::{NewMovie, copy_movie};
 use crate::new_bytes::{begin_box, end_box, push_box, push_media_header, push_u32};
-use crate::obstacles::check_boxes;
+use crate::obstacles::{check_boxes, check_tops};
 use crate::ranges::Ranges;
 use crate::refusal::{Refusal, Stop, in_fragments};
 use crate::times::Time;
@@ -119,8 +119,7 @@ fn cursors_of<'a, S: Source>(
     tables: &[Option<SampleTables<'a>>],
     parts: &[TrackParts],
     lead: usize,
-) -> Result<(Vec<Cursor<'a>>, usize), Stop>
-{
+) -> Result<(Vec<Cursor<'a>>, usize), Stop> {
     let mut cursors = Vec::new(alloc);
     let mut index = 0;
     for number in 0..tracks.len() {
@@ -187,7 +186,7 @@ fn add_fragment(
     media: &mut Media,
 ) -> Result<(), Stop> {
     let mut runs = Vec::new(alloc);
-    let mut data = Ranges::new(alloc);
+    let mut ranges = Ranges::new(alloc);
     let mut part = FragmentPart {
         length: 0,
         duration: 0,
@@ -199,7 +198,7 @@ fn add_fragment(
     for (number, cursor) in cursors.iter_mut().enumerate() {
         let first = cursor.next;
         let passed = runs.len();
-        cursor.take(alloc, end, &mut runs, &mut data, budget)?;
+        cursor.take(alloc, end, &mut runs, &mut ranges, budget)?;
         if number == lead {
             if let Some(sample) = first {
                 part.shown = shown_at(&sample);
@@ -217,11 +216,11 @@ fn add_fragment(
     if is_segmented {
         push_styp(&mut bytes)?;
     }
-    push_moof(alloc, &mut bytes, sequence, runs, &data)?;
-    push_media_header(&mut bytes, data.length)?;
-    part.length = data.length.saturating_add(bytes.len() as u64);
+    push_moof(alloc, &mut bytes, sequence, runs, &ranges)?;
+    push_media_header(&mut bytes, ranges.length)?;
+    part.length = ranges.length.saturating_add(bytes.len() as u64);
     media.pieces.push(Piece::New(bytes))?;
-    data.add_to(&mut media.pieces)?;
+    ranges.add_to(&mut media.pieces)?;
     media.parts.push(part)?;
     Ok(())
 }
@@ -278,8 +277,7 @@ pub fn movie_scale<S: Source>(
     alloc: Global,
     walk: &mut BoxWalk<S>,
     boxes: &[TreeBox],
-) -> Result<u32, MovieError>
-{
+) -> Result<u32, MovieError> {
     let code = FourCC::from(codes::MVHD);
     for found in boxes {
         if found.depth == 1 && found.has_code(code) {
@@ -355,8 +353,7 @@ fn old_ftyp<S: Source>(
     alloc: Global,
     walk: &mut BoxWalk<S>,
     boxes: &[TreeBox],
-) -> Result<FtypBox, Stop>
-{
+) -> Result<FtypBox, Stop> {
     let Some(found) = first_top(boxes, codes::FTYP) else {
         let mut brands = Entries::new(alloc);
         add_brand(&mut brands, FourCC::from(MP41))?;
@@ -381,8 +378,7 @@ fn new_ftyp<S: Source>(
     alloc: Global,
     walk: &mut BoxWalk<S>,
     boxes: &[TreeBox],
-) -> Result<Vec<u8>, Stop>
-{
+) -> Result<Vec<u8>, Stop> {
     let mut ftyp = old_ftyp(alloc, walk, boxes)?;
     add_brand(&mut ftyp.compatible_brands, FourCC::from(ISO6))?;
     let mut out = Vec::new(alloc);
@@ -396,8 +392,7 @@ fn head_of<S: Source>(
     walk: &mut BoxWalk<S>,
     boxes: &[TreeBox],
     tracks: &[Track],
-) -> Result<Plan, Stop>
-{
+) -> Result<Plan, Stop> {
     let scale = match movie_scale(alloc, walk, boxes) {
         Ok(scale) => scale,
         Err(error) => return Err(in_fragments(error)),
@@ -469,8 +464,7 @@ fn plan_media<S: Source>(
     tracks: &[Track],
     length: u64,
     options: FragmentOptions,
-) -> Result<Fragmented, Stop>
-{
+) -> Result<Fragmented, Stop> {
     check_counts(tracks, 0, length)?;
     let parts = parts_of(alloc, boxes)?;
     let tables = all_agreeing(alloc, tracks)?;
@@ -507,6 +501,7 @@ pub fn plan_fragments<S: Source>(
     let mut source = source;
     let length = source.length()?;
     let mut movie = Movie::open(alloc, source)?;
+    check_tops(movie.boxes())?;
     check_progressive(movie.boxes())?;
     let tracks = read_tracks(alloc, &mut movie)?;
     let (mut walk, boxes) = movie.into_parts();

@@ -139,8 +139,7 @@ fn id_in<S: Source>(
     alloc: Global,
     walk: &mut BoxWalk<S>,
     found: &TreeBox,
-) -> Result<u32, MovieError>
-{
+) -> Result<u32, MovieError> {
     match read_at::<TfhdBox, S>(alloc, walk, found)? {
         Ok(header) => Ok(header.track_id),
         Err(error) => Err(MovieError::Box(BoxError::Fault {
@@ -176,8 +175,7 @@ pub fn fragment_groups<S: Source>(
     alloc: Global,
     walk: &mut BoxWalk<S>,
     boxes: &[TreeBox],
-) -> Result<FragmentGroups, Stop>
-{
+) -> Result<FragmentGroups, Stop> {
     let mut by_id = BTreeMap::new(alloc);
     if !has_groups(boxes) {
         return Ok(FragmentGroups { by_id });
@@ -226,8 +224,7 @@ fn groupings_at<S: Source>(
     alloc: Global,
     walk: &mut BoxWalk<S>,
     found: &[TreeBox],
-) -> Result<Vec<Grouping>, Stop>
-{
+) -> Result<Vec<Grouping>, Stop> {
     let mut all = Vec::new(alloc);
     for one in found {
         match grouping_at(alloc, walk, one) {
@@ -248,8 +245,7 @@ impl FragmentGroups {
         id: u32,
         fragments: &[TrackFragment],
         joined: &mut JoinedGroups,
-    ) -> Result<(), Stop>
-    {
+    ) -> Result<(), Stop> {
         let Some(track) = self.by_id.get(&id) else {
             return Ok(());
         };

@@ -284,11 +284,11 @@ pub fn push_moof(
     out: &mut Vec<u8>,
     sequence: u32,
     runs: Vec<Run>,
-    data: &Ranges,
+    media: &Ranges,
 ) -> Result<(), Stop> {
     let mut trafs = trafs_of(alloc, runs)?;
     let mut offset =
-        moof_length(&trafs).saturating_add(media_header_length(data.length));
+        moof_length(&trafs).saturating_add(media_header_length(media.length));
     let at = begin_box(out, codes::MOOF)?;
     let header = MfhdBox {
         version: 0,

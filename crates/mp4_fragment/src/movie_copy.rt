@@ -56,8 +56,8 @@ pub struct CopiedMovie {
 }
 
 /// A box that is copied box by box, and has not ended.
-#[derive(Clone, Copy, Debug)]
-struct Open {
+#[derive(Clone, Copy, Debug, PartialEq, Eq)]
+struct Unended {
     depth: u64,
     code: u32,
     at: usize,
@@ -68,7 +68,7 @@ struct Open {
 struct Copying<'a> {
     new: NewMovie<'a>,
     out: Vec<u8>,
-    open: Vec<Open>,
+    unended: Vec<Unended>,
     tables_at: Vec<usize>,
     /// The number of tracks that have begun.
     begun: usize,
@@ -219,8 +219,7 @@ impl<'a> Copying<'a> {
         alloc: Global,
         walk: &mut BoxWalk<S>,
         found: &TreeBox,
-    ) -> Result<(), Stop>
-    {
+    ) -> Result<(), Stop> {
         let mut bytes = walk.read_box(alloc, found)?;
         if let Some(code) = found.code {
             let number = u32::from(code);
@@ -251,7 +250,7 @@ impl<'a> Copying<'a> {
             self.position = found.position;
         }
         let at = begin_box(&mut self.out, code)?;
-        self.open.push(Open {
+        self.unended.push(Unended {
             depth: found.depth,
             code,
             at,
@@ -260,7 +259,7 @@ impl<'a> Copying<'a> {
     }
 
     /// Ends a box that was entered.
-    fn close(&mut self, ended: Open) -> Result<(), Stop> {
+    fn close(&mut self, ended: Unended) -> Result<(), Stop> {
         end_box(&mut self.out, ended.at, ended.code)?;
         if ended.code != codes::TRAK {
             return Ok(());
@@ -284,12 +283,12 @@ impl<'a> Copying<'a> {
 
     /// Ends the boxes that were entered at `depth` or deeper.
     fn close_to(&mut self, depth: u64) -> Result<(), Stop> {
-        for _ in 0..self.open.len() {
-            let Some(last) = self.open.pop() else {
+        for _ in 0..self.unended.len() {
+            let Some(last) = self.unended.pop() else {
                 break;
             };
             if last.depth < depth {
-                self.open.push(last)?;
+                self.unended.push(last)?;
                 break;
             }
             self.close(last)?;
@@ -303,8 +302,7 @@ impl<'a> Copying<'a> {
         alloc: Global,
         walk: &mut BoxWalk<S>,
         found: &TreeBox,
-    ) -> Result<(), Stop>
-    {
+    ) -> Result<(), Stop> {
         if let Some(depth) = self.whole {
             if found.depth > depth {
                 return Ok(());
@@ -342,12 +340,11 @@ pub fn copy_movie<S: Source>(
     walk: &mut BoxWalk<S>,
     boxes: &[TreeBox],
     new: NewMovie<'_>,
-) -> Result<CopiedMovie, Stop>
-{
+) -> Result<CopiedMovie, Stop> {
     let mut copy = Copying {
         new,
         out: Vec::new(alloc),
-        open: Vec::new(alloc),
+        unended: Vec::new(alloc),
         tables_at: Vec::new(alloc),
         begun: 0,
         position: 0,
@@ -366,7 +363,7 @@ pub fn copy_movie<S: Source>(
     let Copying {
         new: _,
         out,
-        open: _,
+        unended: _,
         tables_at,
         begun: _,
         position: _,

@@ -10,8 +10,7 @@ use std::io;
 const SELF_CONTAINED: u32 = 0x00_0001;
 
 /// Returns the flags of `found` (4.2), or 0 if it has no room for them.
-fn flags_of<S: Source>(alloc: Global, walk: &mut BoxWalk<S>, found: &TreeBox) -> io::Result<u32>
-{
+fn flags_of<S: Source>(alloc: Global, walk: &mut BoxWalk<S>, found: &TreeBox) -> io::Result<u32> {
     let front = TreeBox {
         length: found.header_length.saturating_add(4),
         ..*found
@@ -74,8 +73,7 @@ const TFRF: [u8; 16] = [
 ];
 
 /// Returns whether `found`, a `uuid` in a `traf`, only repeats the times of fragments.
-fn is_time<S: Source>(alloc: Global, walk: &mut BoxWalk<S>, found: &TreeBox) -> io::Result<bool>
-{
+fn is_time<S: Source>(alloc: Global, walk: &mut BoxWalk<S>, found: &TreeBox) -> io::Result<bool> {
     if found.content_length() < 16 {
         return Ok(false);
     }
@@ -95,8 +93,7 @@ fn is_unkept<S: Source>(
     found: &TreeBox,
     code: u32,
     is_joined: bool,
-) -> io::Result<bool>
-{
+) -> io::Result<bool> {
     match found.context.parent {
         codes::STBL => Ok(!is_table(code)),
         codes::TRAF => {
@@ -116,8 +113,7 @@ fn obstacle_at<S: Source>(
     found: &TreeBox,
     code: FourCC,
     is_joined: bool,
-) -> io::Result<Option<Refusal>>
-{
+) -> io::Result<Option<Refusal>> {
     let position = found.position;
     let number = u32::from(code);
     if has_offsets(number) {
@@ -134,35 +130,45 @@ fn obstacle_at<S: Source>(
     Ok(None)
 }
 
-/// Checks that none of `boxes` keeps the file from being rewritten, that each box of the top level is whole, and that
-/// there is one `moov`. If `is_joined`, fragments are joined, and otherwise made.
+/// Checks that each box of the top level is whole, and that there is one `moov`.
+pub fn check_tops(boxes: &[TreeBox]) -> Result<(), Refusal> {
+    let mut has_movie = false;
+    for found in boxes {
+        if found.depth > 0 {
+            continue;
+        }
+        if !found.is_whole() {
+            return Err(Refusal::NotWhole(found.position));
+        }
+        if found.has_code(FourCC::from(codes::MOOV)) {
+            if has_movie {
+                return Err(Refusal::TwoMovies(found.position));
+            }
+            has_movie = true;
+        }
+    }
+    if has_movie {
+        Ok(())
+    } else {
+        Err(Refusal::NoMovie)
+    }
+}
+
+/// Checks that none of `boxes` keeps the file from being rewritten. If `is_joined`, fragments are joined, and otherwise
+/// made.
 pub fn check_boxes<S: Source>(
     alloc: Global,
     walk: &mut BoxWalk<S>,
     boxes: &[TreeBox],
     is_joined: bool,
-) -> Result<(), Stop>
-{
-    let mut movies: u64 = 0;
+) -> Result<(), Stop> {
     for found in boxes {
-        if found.depth == 0 && !found.is_whole() {
-            return Err(Stop::Refused(Refusal::NotWhole(found.position)));
-        }
         let Some(code) = found.code else {
             continue;
         };
-        if found.depth == 0 && code == FourCC::from(codes::MOOV) {
-            if movies > 0 {
-                return Err(Stop::Refused(Refusal::TwoMovies(found.position)));
-            }
-            movies = 1;
-        }
         if let Some(refusal) = obstacle_at(alloc, walk, found, code, is_joined)? {
             return Err(Stop::Refused(refusal));
         }
-    }
-    if movies == 0 {
-        return Err(Stop::Refused(Refusal::NoMovie));
     }
     Ok(())
 }

@@ -51,8 +51,7 @@ fn check_size<S: Source>(
     walk: &mut BoxWalk<S>,
     found: &TreeBox,
     code: FourCC,
-) -> Result<(), Stop>
-{
+) -> Result<(), Stop> {
     let front = TreeBox {
         length: 4,
         ..*found
@@ -75,8 +74,7 @@ pub fn push_kept<S: Source>(
     movie: u64,
     side: Side,
     plan: &mut Plan,
-) -> Result<(), Stop>
-{
+) -> Result<(), Stop> {
     for found in boxes {
         let Some(code) = found.code else {
             continue;

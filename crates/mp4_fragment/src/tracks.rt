@@ -72,8 +72,7 @@ fn track_of<S: Source>(
     alloc: Global,
     movie: &mut Movie<S>,
     info: TrackInfo,
-) -> Result<Track, Stop>
-{
+) -> Result<Track, Stop> {
     let TrackInfo {
         number,
         position,
@@ -117,8 +116,7 @@ fn keep_id(tracks: &mut Tracks, track: &Track) -> Result<(), Stop> {
 
 /// Returns the tracks of `movie`. Refuses a track whose headers or tables can't be read, and two tracks of one
 /// track_ID. Needs the memory of all sample tables.
-pub fn read_tracks<S: Source>(alloc: Global, movie: &mut Movie<S>) -> Result<Tracks, Stop>
-{
+pub fn read_tracks<S: Source>(alloc: Global, movie: &mut Movie<S>) -> Result<Tracks, Stop> {
     let infos = movie.tracks(alloc)?;
     let mut tracks = Tracks {
         all: Vec::new(alloc),
@@ -209,8 +207,7 @@ pub fn grouping_at<S: Source>(
     alloc: Global,
     walk: &mut BoxWalk<S>,
     found: &TreeBox,
-) -> Result<Grouping, MovieError>
-{
+) -> Result<Grouping, MovieError> {
     match read_at::<SbgpBox, S>(alloc, walk, found)? {
         Ok(sbgp) => Ok(Grouping::new(sbgp)),
         Err(error) => Err(MovieError::Box(BoxError::Fault {
@@ -227,8 +224,7 @@ pub fn groupings_of<S: Source>(
     walk: &mut BoxWalk<S>,
     part: &TrackParts,
     track: TrackPlace,
-) -> Result<Vec<Grouping>, Stop>
-{
+) -> Result<Vec<Grouping>, Stop> {
     let mut all = Vec::new(alloc);
     for found in &part.groups {
         match grouping_at(alloc, walk, found) {
@@ -245,8 +241,7 @@ pub fn dependencies_of<S: Source>(
     alloc: Global,
     walk: &mut BoxWalk<S>,
     part: &TrackParts,
-) -> Result<Vec<u8>, Stop>
-{
+) -> Result<Vec<u8>, Stop> {
     let Some(found) = part.dependencies else {
         return Ok(Vec::new(alloc));
     };
