@@ -94,9 +94,7 @@ impl<'a> Cursor<'a> {
     fn pass(&mut self, sample: &Sample) {
         self.next = self.samples.next();
         self.passed = self.passed.saturating_add(1);
-        self.time = sample
-            .start_time
-            .saturating_add(u64::from(sample.duration));
+        self.time = sample.start_time.saturating_add(u64::from(sample.duration));
         self.earliest = self.earliest.min(shown_at(sample));
     }
 

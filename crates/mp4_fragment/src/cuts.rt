@@ -43,9 +43,7 @@ impl Cuts {
 fn first_with(tracks: &[Track], least: u32, is_video: bool) -> Option<usize> {
     for index in 0..tracks.len() {
         let track = &tracks[index];
-        if track.count() >= least
-            && (!is_video || track.handler == FourCC::from(codes::VIDE))
-        {
+        if track.count() >= least && (!is_video || track.handler == FourCC::from(codes::VIDE)) {
             return Some(index);
         }
     }

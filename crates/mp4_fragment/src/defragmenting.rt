@@ -144,7 +144,10 @@ fn add_samples(
         match samples.next() {
             Ok(Some(sample)) => {
                 budget.take(&sample, track.place, number)?;
-                let known = dependencies.get(tables.count as usize).copied().unwrap_or(0);
+                let known = dependencies
+                    .get(tables.count as usize)
+                    .copied()
+                    .unwrap_or(0);
                 is_more = is_more || says_more(known, sample.is_sync);
                 tables.add(&sample, places)?;
             }
@@ -318,7 +321,11 @@ fn set_offsets(movie: &mut CopiedMovie, all: &AllTables, begin: u64, is_wide: bo
             if is_wide {
                 set_u64(&mut movie.bytes, at, offset);
             } else {
-                set_u32(&mut movie.bytes, at, u32::try_from(offset).unwrap_or(u32::MAX));
+                set_u32(
+                    &mut movie.bytes,
+                    at,
+                    u32::try_from(offset).unwrap_or(u32::MAX),
+                );
             }
         }
         offset = offset.saturating_add(place.length);
@@ -466,13 +473,5 @@ pub fn plan_tables<S: Source>(alloc: Global, source: S) -> Result<Defragmented, 
     check_boxes(alloc, &mut walk, &boxes, true)?;
     let samples = check_groups(&groups, &tracks)?;
     check_counts(&tracks.all, samples, length)?;
-    plan_joined(
-        alloc,
-        &mut walk,
-        &boxes,
-        &tracks.all,
-        groups,
-        length,
-        count,
-    )
+    plan_joined(alloc, &mut walk, &boxes, &tracks.all, groups, length, count)
 }

@@ -15,10 +15,8 @@ const MOST: usize = 65_535;
 
 /// Returns the reference of a `sidx` to `part`, fragment `number`.
 fn reference_to(part: &FragmentPart, number: u32) -> Result<SidxEntry, Stop> {
-    let (Ok(size), Ok(duration)) = (
-        u32::try_from(part.length),
-        u32::try_from(part.duration),
-    ) else {
+    let (Ok(size), Ok(duration)) = (u32::try_from(part.length), u32::try_from(part.duration))
+    else {
         return Err(Stop::Refused(Refusal::Index(number)));
     };
     if size >= 1 << 31 {

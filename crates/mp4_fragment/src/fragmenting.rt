@@ -206,7 +206,9 @@ fn add_fragment(
                 part.duration = cursor.time.saturating_sub(sample.start_time);
             }
             part.earliest = cursor.earliest;
-            part.traf = u32::try_from(passed as u64).unwrap_or(u32::MAX).saturating_add(1);
+            part.traf = u32::try_from(passed as u64)
+                .unwrap_or(u32::MAX)
+                .saturating_add(1);
         }
     }
     let sequence = u32::try_from(media.parts.len() as u64)

@@ -287,8 +287,7 @@ pub fn push_moof(
     media: &Ranges,
 ) -> Result<(), Stop> {
     let mut trafs = trafs_of(alloc, runs)?;
-    let mut offset =
-        moof_length(&trafs).saturating_add(media_header_length(media.length));
+    let mut offset = moof_length(&trafs).saturating_add(media_header_length(media.length));
     let at = begin_box(out, codes::MOOF)?;
     let header = MfhdBox {
         version: 0,

@@ -135,14 +135,22 @@ fn action_for(found: &TreeBox) -> Result<Action, Stop> {
         5 => is_replaced(number),
         _ => false,
     };
-    Ok(if is_dropped { Action::Leave } else { Action::Keep })
+    Ok(if is_dropped {
+        Action::Leave
+    } else {
+        Action::Keep
+    })
 }
 
 /// Returns the index, in the content of a header of version 0 or 1, of its duration. `code` is that of an `mvhd`, a
 /// `tkhd` or an `mdhd` (ISO/IEC 14496-12, 8.2.2, 8.3.2, 8.4.2).
 fn duration_at(code: u32, version: u8) -> usize {
     let others = if code == codes::TKHD { 4 } else { 0 };
-    if version == 0 { 16 + others } else { 24 + others }
+    if version == 0 {
+        16 + others
+    } else {
+        24 + others
+    }
 }
 
 /// Returns the duration at the index `at` of a header of this version. It is 0 if it is missing: then all its bits are

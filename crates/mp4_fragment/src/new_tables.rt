@@ -7,9 +7,7 @@ use crate::refusal::{Refusal, Stop};
 use mp4_frame::{Entries, codes};
 use mp4_rewrite::TrackPlace;
 use mp4_samples::Sample;
-use mp4_tables::{
-    CttsBox, CttsEntry, StscBox, StscEntry, StssBox, StszBox, SttsBox, SttsEntry,
-};
+use mp4_tables::{CttsBox, CttsEntry, StscBox, StscEntry, StssBox, StszBox, SttsBox, SttsEntry};
 use std::alloc::Global;
 
 /// A chunk that can have further samples.
@@ -212,9 +210,7 @@ impl NewTables {
         }
         self.add_bytes(sample, places)?;
         self.count = count;
-        self.end = sample
-            .start_time
-            .saturating_add(u64::from(sample.duration));
+        self.end = sample.start_time.saturating_add(u64::from(sample.duration));
         Ok(())
     }
 

@@ -160,7 +160,9 @@ pub enum Refusal {
         bytes: u64,
     },
     /// The samples have more bytes than the file, so that some share bytes.
-    #[error("{track}: up to sample {number} the samples have more bytes than the file, so some share bytes")]
+    #[error(
+        "{track}: up to sample {number} the samples have more bytes than the file, so some share bytes"
+    )]
     Shared {
         /// The track.
         track: TrackPlace,

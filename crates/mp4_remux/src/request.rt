@@ -75,8 +75,10 @@ fn fast_start<'a>(alloc: Global) -> Result<Command<'a>, AllocError> {
 
 /// Returns the command `fragment`.
 fn fragment<'a>(alloc: Global) -> Result<Command<'a>, AllocError> {
-    let duration = "Begin a fragment at a sync sample at least SECONDS after the last beginning, such as 2.5";
-    let segments = "Write segments and an HLS playlist to the directory DIR, which must be empty or new";
+    let duration =
+        "Begin a fragment at a sync sample at least SECONDS after the last beginning, such as 2.5";
+    let segments =
+        "Write segments and an HLS playlist to the directory DIR, which must be empty or new";
     Command::new(alloc, "fragment")
         .about("Write a copy of a file with its samples in fragments: a moof and an mdat for each group of pictures")
         .arg(option(alloc, "duration", "SECONDS", duration))?
