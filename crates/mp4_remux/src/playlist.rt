@@ -17,8 +17,8 @@ fn microseconds_of(ticks: u64, scale: u32) -> u64 {
         return 0;
     }
     let wide = u128::from(scale);
-    let rounded = (u128::from(ticks) * u128::from(SECOND) + wide / 2) / wide;
-    u64::try_from(rounded).unwrap_or(u64::MAX)
+    let parts = u128::from(ticks) * u128::from(SECOND);
+    u64::try_from(parts.saturating_add(wide / 2) / wide).unwrap_or(u64::MAX)
 }
 
 /// Returns the longest duration of a segment in seconds, rounded up.
