@@ -33,15 +33,27 @@ from tests.real_files import making
 MEMORY = 64 << 20
 # The most seconds for a hostile file, and for a file of many samples.
 SECONDS = 10
+NONE, PLAIN = "no track has samples", "the file is not fragmented"
 # The refusals of the stored files and the files that are made by hand, by command: a part of the message of each.
 REFUSED = {
-    "fragment": {},
-    "defragment": {},
+    "fragment": {
+        "broken": "", "counted": NONE, "fragmented": "the file is fragmented already", "fragments": "another moov at 412",
+        "groups": "subs at 1147", "hevc": "there is no moov", "indexed": NONE, "newer": NONE, "pictures": "subs at 1154",
+        "plain": "is not in the file", "quicktime": NONE, "segments": "the file is fragmented already", "signs": "",
+        "sounds": NONE, "subtitles": NONE, "tables": "", "texts": "", "titles": "",
+    },
+    "defragment": {
+        "broken": "", "counted": PLAIN, "fragmented": "", "fragments": "another moov at 412", "groups": PLAIN,
+        "hevc": "there is no moov", "indexed": PLAIN, "newer": PLAIN, "pictures": PLAIN, "plain": PLAIN,
+        "quicktime": PLAIN, "segments": "there is no trex", "signs": PLAIN, "sounds": PLAIN, "subtitles": PLAIN,
+        "tables": PLAIN, "texts": PLAIN, "titles": PLAIN,
+    },
 }
+UNKEPT = "what it says of samples can't be kept"
 # The refusals of the files of ffmpeg, by command: a part of the message of each.
 REAL_REFUSED = {
-    "fragment": {},
-    "defragment": {},
+    "fragment": {f"cenc_{name}": UNKEPT for name in ("h264.mp4", "aac.mp4", "hevc.mp4", "vp9.mp4", "h264.mov")},
+    "defragment": {f"cenc_{name}": UNKEPT for name in ("frag.mp4", "dash.mp4")},
 }
 # The files whose frames ffmpeg decodes otherwise from fragments: it doesn't apply their edit lists there.
 OTHER_FRAMES = {}
