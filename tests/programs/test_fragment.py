@@ -37,10 +37,11 @@ NONE, PLAIN = "no track has samples", "the file is not fragmented"
 # The refusals of the stored files and the files that are made by hand, by command: a part of the message of each.
 REFUSED = {
     "fragment": {
-        "broken": "", "counted": NONE, "fragmented": "the file is fragmented already", "fragments": "another moov at 412",
-        "groups": "subs at 1147", "hevc": "there is no moov", "indexed": NONE, "newer": NONE, "pictures": "subs at 1154",
-        "plain": "is not in the file", "quicktime": NONE, "segments": "the file is fragmented already", "signs": "",
-        "sounds": NONE, "subtitles": NONE, "tables": "", "texts": "", "titles": "",
+        "broken": "", "counted": NONE, "fragmented": "the file is fragmented already",
+        "fragments": "another moov at 412", "groups": "subs at 1147", "hevc": "there is no moov", "indexed": NONE,
+        "newer": NONE, "pictures": "subs at 1154", "plain": "is not in the file", "quicktime": NONE,
+        "segments": "the file is fragmented already", "signs": "", "sounds": NONE, "subtitles": NONE, "tables": "",
+        "texts": "", "titles": "",
     },
     "defragment": {
         "broken": "", "counted": PLAIN, "fragmented": "", "fragments": "another moov at 412", "groups": PLAIN,
