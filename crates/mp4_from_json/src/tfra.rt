@@ -56,7 +56,8 @@ impl TakePieces for Accesses {
 
 impl TakeFields for Tfra {
     ghost taken = { tfra_taken (⟦<Front as TakeShape>⟧.taken
-        (tfra.NAMES.0, (tfra.NAMES.1.0, (tfra.NAMES.1.1.0, (tfra.NAMES.1.1.1.0, (tfra.NAMES.1.1.1.1.0, tt))))) no_context) };
+        (tfra.NAMES.0, (tfra.NAMES.1.0, (tfra.NAMES.1.1.0, (tfra.NAMES.1.1.1.0, (tfra.NAMES.1.1.1.1.0, tt)))))
+        no_context) };
 
     fn take(alloc: Global, object: &mut Object<'_>) -> Result<Tfra> {
         let names = (

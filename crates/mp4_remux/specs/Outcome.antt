@@ -1,7 +1,7 @@
 -- The end of a run of the program.
 use Rattle.std.specs.Prelude.{ℕ, Result, Ok, Err}
-use Rattle.mp4_remux.specs.declared.task.Stop.{Stop}
-use Rattle.mp4_remux.specs.declared.task.Stop.TheVariants as stops
+use Rattle.mp4_remux.specs.declared.stop.Stop.{Stop}
+use Rattle.mp4_remux.specs.declared.stop.Stop.TheVariants as stops
 use Rattle.mp4_remux.specs.declared.outcome.Outcome.{Outcome}
 use Rattle.mp4_remux.specs.declared.outcome.Outcome.TheVariants as outcomes
 

@@ -1,5 +1,6 @@
-//! The changes that the options of `edit` ask for.
+//! The values of options: the changes that those of `edit` ask for, and the seconds of `fragment`.
 
+use crate::seconds::nanoseconds_in;
 use mp4_edit::{Parent, packed_language};
 use mp4_frame::FourCC;
 use mp4_walk::BoxPath;
@@ -65,6 +66,9 @@ const ROTATION: &str = "expected TRACK=DEGREES with 0, 90, 180 or 270, such as 1
 const TRACK: &str = "expected a track_ID, such as 1";
 /// The form of the value of `--tag`.
 const TAG: &str = "expected KEY=VALUE with a key of four characters, such as \u{a9}alb=Blue";
+
+/// The form of the value of `--duration`.
+const DURATION: &str = "expected a number of seconds above 0, such as 2 or 2.5";
 
 /// Returns what is before the first `=` of `text`, and what is after it.
 fn halves<'a>(
@@ -195,6 +199,14 @@ pub fn tag(alloc: Global, value: &str) -> Result<Argument, ArgumentError> {
     let (key, text) = halves(value, TAG)?;
     let text = String::from_str(alloc, text)?;
     Ok(Argument::Tag(code(key, TAG)?, text))
+}
+
+/// Returns the number of nanoseconds that `--duration` with this value asks for.
+pub fn duration(value: &str) -> Result<u64, ArgumentError> {
+    match nanoseconds_in(value) {
+        Some(nanoseconds) => Ok(nanoseconds),
+        None => Err(ArgumentError::Form(DURATION)),
+    }
 }
 
 // The value of an option `--set PATH.field=VALUE` has its place here, once a box can be made of its fields.

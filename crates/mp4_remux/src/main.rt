@@ -1,22 +1,28 @@
 //! The program `mp4remux` rewrites the container of MP4 files, and keeps every sample of every track. It writes a file
-//! with its `moov` before its media data, or with other boxes.
+//! with its `moov` before its media data, with other boxes, with fragments, or with tables in place of fragments.
 #![tactic(auto)]
 
 mod argument;
 mod changes;
 mod destination;
 mod outcome;
+mod playlist;
 mod progress;
 mod request;
 mod rewriting;
+mod seconds;
+mod segments;
+mod stop;
 mod task;
 
 use changes::{NoChanges, changes_of};
 use mp4_command::{MISUSE, NOT_UTF_8, escaped, print_error, unreadable, words_of};
+use mp4_fragment::FragmentOptions;
 use mp4_io::Failure;
 use outcome::Outcome;
 use request::{Misuse, Request, Work, request_of};
 use rewriting::rewrite;
+use segments::write_segments;
 use std::process::ExitCode;
 use task::Task;
 
@@ -36,17 +42,35 @@ fn task_of(rt: &HostRuntime, work: Work) -> Result<Task, NoChanges> {
     match work {
         Work::FastStart => Ok(Task::FastStart),
         Work::Edit(arguments) => Ok(Task::Edit(changes_of(rt, arguments)?)),
+        Work::Fragment(options) => Ok(Task::Fragment(options)),
+        Work::Defragment => Ok(Task::Defragment),
     }
 }
 
-/// Writes the requested file, if its names are UTF-8. Returns the exit status.
+/// Returns the options of `task` if it writes segments, which are several files.
+fn segmented(task: &Task) -> Option<FragmentOptions> {
+    match task {
+        Task::Fragment(options) if options.is_segmented => Some(*options),
+        _ => None,
+    }
+}
+
+/// Carries out `task` with the file `from`, and writes the file or the folder `to`. Returns the exit status.
+fn write(rt: &HostRuntime, task: Task, from: &str, to: &str) -> Result<u8, Failure> {
+    match segmented(&task) {
+        Some(options) => write_segments(rt, options, from, to),
+        None => rewrite(rt, task, from, to),
+    }
+}
+
+/// Writes what is requested, if the names are UTF-8. Returns the exit status.
 fn write_file(rt: &HostRuntime, request: Request) -> Result<u8, Failure> {
     let Request { work, from, to } = request;
     if tell_names(rt, from.as_str(), to.as_str()) {
         return Ok(Outcome::Failed.status());
     }
     match task_of(rt, work) {
-        Ok(task) => rewrite(rt, task, from.as_str(), to.as_str()),
+        Ok(task) => write(rt, task, from.as_str(), to.as_str()),
         Err(NoChanges::Told(outcome)) => Ok(outcome.status()),
         Err(NoChanges::Memory) => Err(Failure::Memory),
     }

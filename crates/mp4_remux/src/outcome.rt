@@ -3,7 +3,7 @@
 ghost use Rattle.std.specs.Prelude.{◌≡◌};
 ghost use Rattle.mp4_remux.specs.Outcome.{outcome_of, status_of};
 
-use crate::task::{Done, Stop};
+use crate::stop::Stop;
 
 /// The end of a run of the program that writes a file.
 #[derive(Clone, Copy, Debug, PartialEq, Eq)]
@@ -17,8 +17,8 @@ pub enum Outcome {
 }
 
 impl Outcome {
-    /// Returns the outcome of a run.
-    pub fn of_run(run: &Result<Done, Stop>) -> Outcome
+    /// Returns the outcome of a run that writes a file.
+    pub fn of_run<T>(run: &Result<T, Stop>) -> Outcome
         ensures { result ≡ outcome_of run.now }
     {
         match run {

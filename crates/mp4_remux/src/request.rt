@@ -1,11 +1,12 @@
 //! The requests that a command line can make.
 
 use crate::argument::{
-    Argument, ArgumentError, brands, insertion, language, removal, replacement, rotation, tag,
-    track_of,
+    Argument, ArgumentError, brands, duration, insertion, language, removal, replacement, rotation,
+    tag, track_of,
 };
 use clap::{Arg, ArgAction, ArgMatches, Command, Error};
 use mp4_command::unreadable;
+use mp4_fragment::FragmentOptions;
 use std::alloc::{AllocError, Global};
 
 /// What a command line asks for.
@@ -15,6 +16,10 @@ pub enum Work {
     FastStart,
     /// These changes.
     Edit(Vec<Argument>),
+    /// Fragments.
+    Fragment(FragmentOptions),
+    /// Tables in place of fragments.
+    Defragment,
 }
 
 /// A request to write a file.
@@ -24,7 +29,7 @@ pub struct Request {
     pub work: Work,
     /// The name of the file to read. A name that is not UTF-8 has a mark.
     pub from: String,
-    /// The name of the file to write; `-` is the standard output.
+    /// The name of the file to write; `-` is the standard output. If segments are asked for, the name of a folder.
     pub to: String,
 }
 
@@ -57,8 +62,8 @@ impl From<AllocError> for Misuse {
 }
 
 /// What no edit can do, and what holds of a dropped track: the end of the help of `edit`.
-const AFTER: &str = "A PATH is codes and numbers, such as moov/trak[1]/udta; / is the file. Paths are those of IN, whatever
-the order of the options. TRACK is a track_ID.
+const AFTER: &str = "A PATH is codes and numbers, such as moov/trak[1]/udta; / is the file. Paths are those of IN,
+whatever the order of the options. TRACK is a track_ID.
 
 Every sample of every track keeps its bytes, times, flags and description, and every other byte stays the same, except
 for the named boxes, the sizes of the boxes around them, and offsets, which lead to the same bytes as before. So no
@@ -77,19 +82,26 @@ fn input<'a>(alloc: Global) -> Arg<'a> {
     named(alloc, "IN", "File to read; it isn't changed")
 }
 
+/// The help for the file to write.
+const OUTPUT: &str =
+    "File to write, whole or not at all; an existing file is replaced; - is the standard output";
+
 /// Returns the argument for the file to write.
 fn output<'a>(alloc: Global) -> Arg<'a> {
-    let help = "File to write, whole or not at all; an existing file is replaced; - is the standard output";
-    named(alloc, "OUT", help)
+    named(alloc, "OUT", OUTPUT)
 }
 
-/// Returns the option `name` with a value, which may be given more than once.
+/// Returns the option `name` with a value that is shown as `value`.
 fn option<'a>(alloc: Global, name: &'a str, value: &'a str, help: &'a str) -> Arg<'a> {
     Arg::new(alloc, name)
         .long(name)
-        .action(ArgAction::Append)
         .value_name(value)
         .help(help)
+}
+
+/// Returns the option `name` with a value, which may be given more than once.
+fn repeated<'a>(alloc: Global, name: &'a str, value: &'a str, help: &'a str) -> Arg<'a> {
+    option(alloc, name, value, help).action(ArgAction::Append)
 }
 
 /// Returns the option `name` without a value.
@@ -117,10 +129,10 @@ fn with_boxes<'a>(alloc: Global, command: Command<'a>) -> Result<Command<'a>, Al
     let replace = "Replace the box at PATH by that of FILE";
     let brand = "Set the major brand to the first of these codes, and add all of them to the compatible brands";
     command
-        .arg(option(alloc, "remove", "PATH", remove))?
-        .arg(option(alloc, "insert", "PATH=FILE", insert))?
-        .arg(option(alloc, "replace", "PATH=FILE", replace))?
-        .arg(option(alloc, "brand", "BRANDS", brand))
+        .arg(repeated(alloc, "remove", "PATH", remove))?
+        .arg(repeated(alloc, "insert", "PATH=FILE", insert))?
+        .arg(repeated(alloc, "replace", "PATH=FILE", replace))?
+        .arg(repeated(alloc, "brand", "BRANDS", brand))
 }
 
 /// Adds the options of `edit` for tracks.
@@ -128,11 +140,11 @@ fn with_tracks<'a>(alloc: Global, command: Command<'a>) -> Result<Command<'a>, A
     let language = "Set the language of a track, such as 1=eng; an elng of it is removed";
     let rotate = "Turn the pictures of a track clockwise by 0, 90, 180 or 270 degrees, such as 1=90";
     command
-        .arg(option(alloc, "language", "TRACK=LANGUAGE", language))?
-        .arg(option(alloc, "rotate", "TRACK=DEGREES", rotate))?
-        .arg(option(alloc, "enable", "TRACK", "Enable a track"))?
-        .arg(option(alloc, "disable", "TRACK", "Disable a track"))?
-        .arg(option(alloc, "drop-track", "TRACK", "Drop a track"))
+        .arg(repeated(alloc, "language", "TRACK=LANGUAGE", language))?
+        .arg(repeated(alloc, "rotate", "TRACK=DEGREES", rotate))?
+        .arg(repeated(alloc, "enable", "TRACK", "Enable a track"))?
+        .arg(repeated(alloc, "disable", "TRACK", "Disable a track"))?
+        .arg(repeated(alloc, "drop-track", "TRACK", "Drop a track"))
 }
 
 /// Adds the options of `edit` for tags.
@@ -141,9 +153,9 @@ fn with_tags<'a>(alloc: Global, command: Command<'a>) -> Result<Command<'a>, All
     let key = "Set a tag of iTunes to a text, such as \u{a9}alb=Blue";
     command
         .arg(flag(alloc, "no-tags", none))?
-        .arg(option(alloc, "title", "TEXT", "Set the tag \u{a9}nam"))?
-        .arg(option(alloc, "tag", "KEY=VALUE", key))?
-        .arg(option(
+        .arg(repeated(alloc, "title", "TEXT", "Set the tag \u{a9}nam"))?
+        .arg(repeated(alloc, "tag", "KEY=VALUE", key))?
+        .arg(repeated(
             alloc,
             "cover",
             "FILE",
@@ -164,6 +176,41 @@ fn edit<'a>(alloc: Global) -> Result<Command<'a>, AllocError> {
     with_tags(alloc, command)
 }
 
+/// Returns the command `fragment`.
+fn fragment<'a>(alloc: Global) -> Result<Command<'a>, AllocError> {
+    let duration =
+        "Begin a fragment at a sync sample at least SECONDS after the last beginning, such as 2.5";
+    let segments =
+        "Write segments and an HLS playlist to the directory DIR, which must be empty or new";
+    Command::new(alloc, "fragment")
+        .about("Write a copy of a file with its samples in fragments: a moof and an mdat for each group of pictures")
+        .arg(option(alloc, "duration", "SECONDS", duration))?
+        .arg(flag(alloc, "sidx", "Write an index of the fragments before them"))?
+        .arg(flag(alloc, "mfra", "Write an index of the fragments after them"))?
+        .arg(
+            option(alloc, "segments", "DIR", segments)
+                .conflicts_with("OUT")?
+                .conflicts_with("sidx")?
+                .conflicts_with("mfra")?,
+        )?
+        .arg(input(alloc))?
+        .arg(
+            Arg::new(alloc, "OUT")
+                .required_unless_present("segments")?
+                .help(OUTPUT),
+        )
+}
+
+/// Returns the command `defragment`.
+fn defragment<'a>(alloc: Global) -> Result<Command<'a>, AllocError> {
+    Command::new(alloc, "defragment")
+        .about(
+            "Write a copy of a file with its fragments joined: one moov with tables of all samples, and one mdat",
+        )
+        .arg(input(alloc))?
+        .arg(output(alloc))
+}
+
 /// Returns the whole command line.
 fn command<'a>(alloc: Global) -> Result<Command<'a>, AllocError> {
     Command::new(alloc, "mp4remux")
@@ -174,7 +221,9 @@ fn command<'a>(alloc: Global) -> Result<Command<'a>, AllocError> {
         .subcommand_required(true)
         .arg_required_else_help(true)
         .subcommand(fast_start(alloc)?)?
-        .subcommand(edit(alloc)?)
+        .subcommand(edit(alloc)?)?
+        .subcommand(fragment(alloc)?)?
+        .subcommand(defragment(alloc)?)
 }
 
 /// Returns the name of the file in the argument `id` of `matches`.
@@ -200,6 +249,29 @@ fn argument(alloc: Global, name: &str, value: &str) -> Result<Argument, Argument
     }
 }
 
+/// Returns `value`, the value of an option, if it is UTF-8.
+fn text_of<'a>(alloc: Global, value: &'a str) -> Result<&'a str, Misuse> {
+    match unreadable(value) {
+        Some(shown) => Err(Misuse::NotText(String::from_str(alloc, shown)?)),
+        None => Ok(value),
+    }
+}
+
+/// Returns the misuse of the option `option` with a `value` that has the fault `error`.
+fn misuse_of(alloc: Global, option: &'static str, value: &str, error: ArgumentError) -> Misuse {
+    match error {
+        ArgumentError::Form(form) => match String::from_str(alloc, value) {
+            Ok(value) => Misuse::Value {
+                option,
+                value,
+                form,
+            },
+            Err(_) => Misuse::Memory,
+        },
+        ArgumentError::Memory => Misuse::Memory,
+    }
+}
+
 /// Adds to `arguments` what the option `name` asks for, each time that it is given.
 fn add_all(
     alloc: Global,
@@ -211,23 +283,13 @@ fn add_all(
         return Ok(());
     };
     for item in values {
-        let value: &str = *item;
-        if let Some(shown) = unreadable(value) {
-            return Err(Misuse::NotText(String::from_str(alloc, shown)?));
-        }
+        let value: &str = text_of(alloc, *item)?;
         match argument(alloc, name, value) {
             Ok(argument) => match arguments.push(argument) {
                 Ok(()) => {}
                 Err(_) => return Err(Misuse::Memory),
             },
-            Err(ArgumentError::Form(form)) => {
-                return Err(Misuse::Value {
-                    option: name,
-                    value: String::from_str(alloc, value)?,
-                    form,
-                });
-            }
-            Err(ArgumentError::Memory) => return Err(Misuse::Memory),
+            Err(error) => return Err(misuse_of(alloc, name, value, error)),
         }
     }
     Ok(())
@@ -267,12 +329,39 @@ fn edit_of(alloc: Global, matches: &ArgMatches<'_>) -> Result<Work, Misuse> {
     Ok(Work::Edit(arguments))
 }
 
-/// Returns the request to do `work` with the files in `matches`.
-fn request(alloc: Global, matches: &ArgMatches<'_>, work: Work) -> Result<Request, Misuse> {
+/// Returns the least number of nanoseconds of a fragment in `matches`, or `None` if it has none.
+fn least_of(alloc: Global, matches: &ArgMatches<'_>) -> Result<Option<u64>, Misuse> {
+    let Some(value) = matches.get_str("duration") else {
+        return Ok(None);
+    };
+    let value = text_of(alloc, value)?;
+    match duration(value) {
+        Ok(least) => Ok(Some(least)),
+        Err(error) => Err(misuse_of(alloc, "duration", value, error)),
+    }
+}
+
+/// Returns the fragments that `matches` ask for.
+fn fragment_of(alloc: Global, matches: &ArgMatches<'_>) -> Result<FragmentOptions, Misuse> {
+    Ok(FragmentOptions {
+        least: least_of(alloc, matches)?,
+        has_sidx: matches.get_flag("sidx"),
+        has_mfra: matches.get_flag("mfra"),
+        is_segmented: matches.contains_id("segments"),
+    })
+}
+
+/// Returns the request to do `work` with the file IN of `matches`, and to write what the argument `to` names.
+fn request(
+    alloc: Global,
+    matches: &ArgMatches<'_>,
+    work: Work,
+    to: &str,
+) -> Result<Request, Misuse> {
     Ok(Request {
         work,
         from: name_of(alloc, matches, "IN")?,
-        to: name_of(alloc, matches, "OUT")?,
+        to: name_of(alloc, matches, to)?,
     })
 }
 
@@ -281,10 +370,16 @@ fn asked(alloc: Global, matches: &ArgMatches<'_>) -> Result<Request, Misuse> {
     match matches.subcommand() {
         Some(("edit", inner)) => {
             let work = edit_of(alloc, inner)?;
-            request(alloc, inner, work)
+            request(alloc, inner, work, "OUT")
         }
-        Some((_, inner)) => request(alloc, inner, Work::FastStart),
-        None => request(alloc, matches, Work::FastStart),
+        Some(("fragment", inner)) => {
+            let options = fragment_of(alloc, inner)?;
+            let to = if options.is_segmented { "segments" } else { "OUT" };
+            request(alloc, inner, Work::Fragment(options), to)
+        }
+        Some(("defragment", inner)) => request(alloc, inner, Work::Defragment, "OUT"),
+        Some((_, inner)) => request(alloc, inner, Work::FastStart, "OUT"),
+        None => request(alloc, matches, Work::FastStart, "OUT"),
     }
 }
 

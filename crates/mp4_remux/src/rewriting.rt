@@ -4,7 +4,8 @@
 use crate::destination::{Destination, Node, NodeKind, choose_destination, partial_beside};
 use crate::outcome::Outcome;
 use crate::progress::Progress;
-use crate::task::{Done, Stop, Task, carry_out};
+use crate::stop::Stop;
+use crate::task::{Done, Task, carry_out};
 use mp4_command::{Kept, MISUSE, escaped};
 use mp4_io::{Failure, Output, Steady, is_closed_pipe};
 use std::fs::{File, Metadata, OpenOptions, Permissions};
@@ -15,32 +16,32 @@ use std::{fs, io};
 
 /// The names of the two files.
 #[derive(Clone, Copy)]
-struct Names<'a> {
+pub struct Names<'a> {
     /// The name of the file that is read.
-    from: &'a str,
+    pub from: &'a str,
     /// The name of the file that is written.
-    to: &'a str,
+    pub to: &'a str,
     /// `from` with its control characters escaped, for messages.
-    shown_from: &'a str,
+    pub shown_from: &'a str,
     /// `to` with its control characters escaped, for messages.
-    shown_to: &'a str,
+    pub shown_to: &'a str,
 }
 
 /// The file that is read, opened twice, since the old file and the new one are read at the same time.
 #[derive(Drop)]
-struct Opened {
+pub struct Opened {
     /// The file.
-    first: Kept<File>,
+    pub first: Kept<File>,
     /// The same file.
-    second: Kept<File>,
+    pub second: Kept<File>,
     /// The length of the file.
-    length: u64,
+    pub length: u64,
     /// Its permissions.
-    mode: u32,
+    pub mode: u32,
 }
 
 /// Prints to standard error what is wrong with a file. Its name in messages is `shown`.
-fn tell(rt: &HostRuntime, shown: &str, error: &io::Error) -> Outcome {
+pub fn tell(rt: &HostRuntime, shown: &str, error: &io::Error) -> Outcome {
     let _ = eprintln!(rt; "mp4remux: {shown}: {error}");
     Outcome::Failed
 }
@@ -68,7 +69,7 @@ fn read_error(opened: Opened) -> Option<io::Error> {
 }
 
 /// Prints to standard error why a file was not written. `opened` and `write_error` have the last errors of both files.
-fn tell_stop(
+pub fn tell_stop(
     rt: &HostRuntime,
     names: Names<'_>,
     stop: &Stop,
@@ -160,18 +161,10 @@ fn write_file(
     Ok(done)
 }
 
-/// Prints what was written to the file whose name in messages is `shown`.
-fn tell_done(rt: &HostRuntime, shown: &str, done: Done) -> Result<Outcome, Failure> {
-    let told = match done {
-        Done::Moved(moved) => println!(rt;
-            "{shown}: moov is moved from {} to {}",
-            moved.begin, moved.insert
-        ),
-        Done::Copied => println!(rt; "{shown}: a copy, as no media data are before the moov"),
-        Done::Edited(1) => println!(rt; "{shown}: 1 edit is made"),
-        Done::Edited(count) => println!(rt; "{shown}: {count} edits are made"),
-    };
-    match told {
+/// Returns the end of a run that has written everything and printed a line about it. A reader who has closed the pipe
+/// does without the line.
+pub fn after_line(printed: io::Result<()>) -> Result<Outcome, Failure> {
+    match printed {
         Ok(()) => Ok(Outcome::Written),
         Err(error) if is_closed_pipe(&error) => Ok(Outcome::Written),
         Err(_) => Err(Failure::Write),
@@ -218,7 +211,9 @@ fn write_to(
         let _ = fs::remove_file(rt, &partial);
         return Ok(tell(rt, names.shown_to, &error));
     }
-    tell_done(rt, names.shown_to, done)
+    let shown = names.shown_to;
+    let printed = println!(rt; "{shown}: {done}");
+    after_line(printed)
 }
 
 /// Writes the new file to the file to which the name `names.to` leads. The file that is read is the node `source`.
@@ -283,7 +278,7 @@ fn open_twice(rt: &HostRuntime, name: &str) -> io::Result<(Opened, Metadata)> {
 
 /// Opens the file that is read, and returns it with its node. If that fails or it is not a regular file, prints a line
 /// to standard error and returns `None`. A FIFO is not opened, since that would wait for a writer.
-fn open_source(rt: &HostRuntime, names: Names<'_>) -> Option<(Opened, Node)> {
+pub fn open_source(rt: &HostRuntime, names: Names<'_>) -> Option<(Opened, Node)> {
     let shown = names.shown_from;
     let opened = match fs::metadata(rt, names.from) {
         Ok(metadata) => {
@@ -313,14 +308,23 @@ fn misuse(rt: &HostRuntime, what: &str) -> u8 {
     MISUSE
 }
 
+/// Returns whether `from` can be read twice. If it is `-`, prints a misuse to standard error.
+pub fn is_input(rt: &HostRuntime, from: &str) -> bool {
+    if from == "-" {
+        misuse(
+            rt,
+            "IN must be a file, since it is read twice; ./- is a file of this name",
+        );
+        return false;
+    }
+    true
+}
+
 /// Carries out `task` with the file `from` and writes the file `to`, or leaves `to` as it was. If `to` is `-`, writes
 /// to the standard output. Returns the exit status: 1 if `from` is refused, and 2 if `from` is `-`.
 pub fn rewrite(rt: &HostRuntime, task: Task, from: &str, to: &str) -> Result<u8, Failure> {
-    if from == "-" {
-        return Ok(misuse(
-            rt,
-            "IN must be a file, since it is read twice; ./- is a file of this name",
-        ));
+    if !is_input(rt, from) {
+        return Ok(MISUSE);
     }
     if to == "-" && rt.stdout().is_terminal() {
         return Ok(misuse(

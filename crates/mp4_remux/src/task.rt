@@ -1,10 +1,13 @@
 //! What is done with a file.
 
+use crate::stop::Stop;
 use mp4_edit::{Shortcut, edits_of, write_edited};
 use mp4_faststart::{Move, write_fast_start};
-use mp4_io::{Failure, Output};
+use mp4_fragment::{FragmentOptions, plan_fragments, plan_tables, write_planned};
+use mp4_io::Output;
 use mp4_walk::Source;
-use std::alloc::{AllocError, Global};
+use std::alloc::Global;
+use std::fmt;
 use std::io::Write;
 
 /// What should be done with a file.
@@ -14,6 +17,10 @@ pub enum Task {
     FastStart,
     /// It is written with these changes.
     Edit(Vec<Shortcut>),
+    /// It is written with fragments.
+    Fragment(FragmentOptions),
+    /// It is written with tables in place of its fragments.
+    Defragment,
 }
 
 /// What was done with a file.
@@ -23,40 +30,44 @@ pub enum Done {
     Moved(Move),
     /// It is copied, since its `moov` is before its media data already.
     Copied,
-    /// So many edits are made.
+    /// This many edits are made.
     Edited(u64),
+    /// This many fragments are made.
+    Fragmented(usize),
+    /// Its fragments are joined.
+    Joined {
+        /// The number of fragments that were joined.
+        fragments: u64,
+        /// The number of samples in the new tables.
+        samples: u64,
+    },
 }
 
-/// The reason why a file is not written, or not to its end.
-#[derive(Debug, Drop)]
-pub enum Stop {
-    /// The file is refused, and nothing is written. The text names the reason.
-    Refused(String),
-    /// Reading or writing failed, or memory was refused. A beginning of the new file is written.
-    Failed(Failure),
-}
-
-/// Returns the reason for a refusal with this text.
-fn refused(text: Result<String, AllocError>) -> Stop {
-    match text {
-        Ok(text) => Stop::Refused(text),
-        Err(_) => Stop::Failed(Failure::Memory),
-    }
-}
-
-/// Returns the reason why `faststart` stopped.
-fn of_fast_start(alloc: Global, stop: mp4_faststart::Stop) -> Stop {
-    match stop {
-        mp4_faststart::Stop::Refused(refusal) => refused(format!(in alloc; "{refusal}")),
-        mp4_faststart::Stop::Failed(failure) => Stop::Failed(failure),
-    }
-}
-
-/// Returns the reason why `edit` stopped.
-fn of_edit(alloc: Global, stop: mp4_edit::Stop) -> Stop {
-    match stop {
-        mp4_edit::Stop::Refused(refusal) => refused(format!(in alloc; "{refusal}")),
-        mp4_edit::Stop::Failed(failure) => Stop::Failed(failure),
+impl fmt::Display for Done {
+    fn fmt<W: fmt::Write>(&self, f: &mut fmt::Formatter<W>) -> fmt::Result {
+        match self {
+            Done::Moved(moved) => {
+                let (begin, insert) = (moved.begin, moved.insert);
+                write!(f, "moov is moved from {begin} to {insert}")
+            }
+            Done::Copied => f.write_str("a copy, as no media data are before the moov"),
+            Done::Edited(count) => {
+                let words = if *count == 1 { "edit is" } else { "edits are" };
+                write!(f, "{count} {words} made")
+            }
+            Done::Fragmented(count) => {
+                let word = if *count == 1 { "fragment" } else { "fragments" };
+                write!(f, "{count} {word}")
+            }
+            Done::Joined { fragments, samples } => {
+                let word = if *fragments == 1 {
+                    "fragment"
+                } else {
+                    "fragments"
+                };
+                write!(f, "{fragments} {word} joined, {samples} samples")
+            }
+        }
     }
 }
 
@@ -67,10 +78,9 @@ fn fast_start<S: Source, T: Source, W: Write>(
     second: T,
     output: &mut Output<W>,
 ) -> Result<Done, Stop> {
-    match write_fast_start(alloc, first, second, output) {
-        Ok(Some(moved)) => Ok(Done::Moved(moved)),
-        Ok(None) => Ok(Done::Copied),
-        Err(stop) => Err(of_fast_start(alloc, stop)),
+    match write_fast_start(alloc, first, second, output)? {
+        Some(moved) => Ok(Done::Moved(moved)),
+        None => Ok(Done::Copied),
     }
 }
 
@@ -82,14 +92,37 @@ fn edit<S: Source, T: Source, W: Write>(
     second: T,
     output: &mut Output<W>,
 ) -> Result<Done, Stop> {
-    let edits = match edits_of(alloc, &mut *first, changes) {
-        Ok(edits) => edits,
-        Err(stop) => return Err(of_edit(alloc, stop)),
-    };
-    match write_edited(alloc, first, second, &edits, output) {
-        Ok(()) => Ok(Done::Edited(edits.len() as u64)),
-        Err(stop) => Err(of_edit(alloc, stop)),
-    }
+    let edits = edits_of(alloc, &mut *first, changes)?;
+    write_edited(alloc, first, second, &edits, output)?;
+    Ok(Done::Edited(edits.len() as u64))
+}
+
+/// Writes the file `first` with fragments. `second` is the same file.
+fn fragment<S: Source, T: Source, W: Write>(
+    alloc: Global,
+    options: FragmentOptions,
+    first: &mut S,
+    second: T,
+    output: &mut Output<W>,
+) -> Result<Done, Stop> {
+    let fragmented = plan_fragments(alloc, &mut *first, options)?;
+    write_planned(alloc, first, second, &fragmented.plan, output)?;
+    Ok(Done::Fragmented(fragmented.parts.len()))
+}
+
+/// Writes the file `first` with tables in place of its fragments. `second` is the same file.
+fn defragment<S: Source, T: Source, W: Write>(
+    alloc: Global,
+    first: &mut S,
+    second: T,
+    output: &mut Output<W>,
+) -> Result<Done, Stop> {
+    let joined = plan_tables(alloc, &mut *first)?;
+    write_planned(alloc, first, second, &joined.plan, output)?;
+    Ok(Done::Joined {
+        fragments: joined.fragments,
+        samples: joined.samples,
+    })
 }
 
 /// Carries out `task` with the file `first`. `second` is the same file, since the old and the new file are compared.
@@ -103,5 +136,7 @@ pub fn carry_out<S: Source, T: Source, W: Write>(
     match task {
         Task::FastStart => fast_start(alloc, first, second, output),
         Task::Edit(changes) => edit(alloc, changes, first, second, output),
+        Task::Fragment(options) => fragment(alloc, options, first, second, output),
+        Task::Defragment => defragment(alloc, first, second, output),
     }
 }

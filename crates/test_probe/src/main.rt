@@ -27,8 +27,9 @@
 //! 14. The structure of the trees of 9. The text is empty after a fault.
 //!
 //! With the argument `movies` the bytes of each record of the input are a file, and it gives one record of the output:
-//! the text of its movie (`movie.rt`). With the argument `json` the position is the code of a box, and the bytes are its
-//! JSON. The record of the output has the bytes that are written of the box, or why the JSON is refused (`taken.rt`).
+//! the text of its movie (`movie.rt`). With the argument `json` the position is the code of a box, and the bytes are
+//! its JSON. The record of the output has the bytes that are written of the box, or why the JSON is refused
+//! (`taken.rt`).
 #![tactic(auto)]
 
 mod declared;

@@ -1,7 +1,7 @@
 //! The fields of sample entries of video and subtitles, and of what configures their decoders.
 
-ghost use Rattle.mp4_show.specs.declared.fields.entries.TheConstants.{AVC1, AVCC, COLOR, HEV1, HVCC, TX3G, VP09, VP09_REST};
-ghost use Rattle.mp4_show.specs.declared.fields.entries.TheConstants.{VPCC, VPCC_REST};
+ghost use Rattle.mp4_show.specs.declared.fields.entries.TheConstants.{AVC1, AVCC, COLOR, HEV1, HVCC, TX3G, VP09};
+ghost use Rattle.mp4_show.specs.declared.fields.entries.TheConstants.{VP09_REST, VPCC, VPCC_REST};
 ghost use Rattle.std.specs.Prelude.{◌++◌};
 ghost use Rattle.mp4_shown.specs.Lists.{bytes_item};
 ghost use Rattle.mp4_shown.specs.Members.{members_append, whole_bytes_item};

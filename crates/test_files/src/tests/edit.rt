@@ -5,15 +5,15 @@ use mp4_io::Output;
 use mp4_walk::BoxPath;
 use std::alloc::Global;
 
-/// A file with an `ftyp`, a `moov` at 16, and an `mdat` at 56. The `moov` has a `saio` with offsets into the `ftyp`, the
-/// `saio` itself, the `mdat`, and past the end.
+/// A file with an `ftyp`, a `moov` at 16, and an `mdat` at 56. The `moov` has a `saio` with offsets into the `ftyp`,
+/// the `saio` itself, the `mdat`, and past the end.
 const BEFORE: &[u8] = b"\x00\x00\x00\x10ftypisom\x00\x00\x02\x00\
 \x00\x00\x00\x28moov\
 \x00\x00\x00\x20saio\x00\x00\x00\x00\x00\x00\x00\x04\x00\x00\x00\x0f\x00\x00\x00\x18\x00\x00\x00\x40\x00\x00\x00\x60\
 \x00\x00\x00\x0fmdat\x01\x02\x03\x04\x05\x06\x07";
 
-/// The same file with a `free` of 9 bytes as the first child of the `moov`. The `moov` and all offsets but the first are
-/// 9 larger.
+/// The same file with a `free` of 9 bytes as the first child of the `moov`. The `moov` and all offsets but the first
+/// are 9 larger.
 const AFTER: &[u8] = b"\x00\x00\x00\x10ftypisom\x00\x00\x02\x00\
 \x00\x00\x00\x31moov\
 \x00\x00\x00\x09free\x00\
