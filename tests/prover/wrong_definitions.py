@@ -1,9 +1,10 @@
 """Tries wrong definitions: changes of the layout that definition and code make alike, so that no proof sees them.
 
 Each change of wrong-definitions.txt is made in a copy of the repository. There the tests of the crates, the rows of
-test_rows and some inputs of test_differential run without proof, and the rows of the changed box run first. A test has
-to fail. If the change names the tests that are made for it, one of these has to fail. Prints for each change which
-tests failed, up to those that catch it, and at the end the changes that no test caught. There must be none.
+test_rows and some inputs of test_differential run without proof, and the rows of the changed box run first. For a
+change of what is shown, only its rows with fields or its trees run, by mp4inspect. A test has to fail. If the change
+names the tests that are made for it, one of these has to fail. Prints for each change which tests failed, up to those
+that catch it, and at the end the changes that no test caught. There must be none.
 
     python3 -m tests.prover.wrong_definitions [--only WORD] [--apart] [--jobs N] [--list] [--prove]
 

@@ -19,7 +19,8 @@ NO_DREF = ("NotFound", "dref")
 # - `trees`: the bytes that the list is written in if it is read as trees.
 # - `headers`: the number of headers of descriptors that are read.
 # - `places`: the places of the boxes, with the position of the cursor.
-# - `fields`: the fields of the one box in JSON, by their names in the standard and in its order.
+# - `fields`: the fields in JSON of the one box, or of the last box inside it, by their names and in their order in the
+#   syntax of the standard.
 FIELDS = """buffer at box boxes written kept_box kept_boxes kept_written declared declared_written trees headers places
     fields"""
 Row = collections.namedtuple("Row", FIELDS, defaults=[0, *[None] * 12])
@@ -157,8 +158,8 @@ def declared_as(buffer, value):
 
 
 def fields(buffer, **of_box):
-    """Expects that the fields `of_box`, in this order, are shown of the box of `buffer`. A name that Python has for
-    itself or can't write stands in a dictionary: `**{"class": 1}`."""
+    """Expects that the fields `of_box`, in this order, are shown of the box of `buffer`, or of the last box inside it.
+    Pass a name that Python can't write as an argument in a dictionary: `**{"class": 1}`."""
     return Row(buffer, fields=of_box)
 
 
