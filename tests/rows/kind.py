@@ -48,21 +48,8 @@ def version_1():
 
 
 def fields_of_kinds():
-    """ISO/IEC 14496-12, 8.10.4."""
-    yield fields(
-        full(b"kind", b"urn:mpeg:dash:role:2011\0", b"main\0", flags=0x01_0203),
-        version=0,
-        flags=66051,
-        schemeURI="urn:mpeg:dash:role:2011",
-        value="main",
-    )
-    # Take bytes that aren't UTF-8.
-    yield fields(
-        full(b"kind", b"u\xc3\0", b"\xfev\0", flags=0x01_0203),
-        version=0,
-        flags=66051,
-        schemeURI="u\ufffd",
-        schemeURI_hex="75c3",
-        value="\ufffdv",
-        value_hex="fe76",
-    )
+    """ISO/IEC 14496-12, 8.10.4: texts that are UTF-8, and others."""
+    role = {"schemeURI": "urn:mpeg:dash:role:2011", "value": "main"}
+    others = {"schemeURI": "u\ufffd", "schemeURI_hex": "75c3", "value": "\ufffdv", "value_hex": "fe76"}
+    for texts, shown in [(b"urn:mpeg:dash:role:2011\0main\0", role), (b"u\xc3\0\xfev\0", others)]:
+        yield fields(full(b"kind", texts, flags=0x01_0203), version=0, flags=66051, **shown)

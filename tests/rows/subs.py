@@ -120,33 +120,20 @@ def many_entries():
 
 
 def fields_of_parts_of_samples():
-    """ISO/IEC 14496-12, 8.7.7."""
-    yield fields(
-        full(
-            b"subs", u32(3),
-            u32(11), u16(3),
-            u16(20), u8(21, 22), u32(23), u16(24), u8(25, 26), u32(27), u16(28), u8(29, 30), u32(31),
-            u32(12), u16(0),
-            u32(13), u16(1), u16(32), u8(33, 34), u32(35),
-            version=0, flags=0x010203,
-        ),
-        version=0, flags=66051, entry_count=3,
-        entries=[
-            sample(11, (20, 21, 22, 23), (24, 25, 26, 27), (28, 29, 30, 31)), sample(12), sample(13, (32, 33, 34, 35)),
-        ],
-    )
-    yield fields(
-        full(
-            b"subs", u32(3),
-            u32(11), u16(3),
-            u32(0x10000), u8(21, 22), u32(23), u32(24), u8(25, 26), u32(27), u32(28), u8(29, 30), u32(31),
-            u32(12), u16(0),
-            u32(13), u16(1), u32(32), u8(33, 34), u32(35),
-            version=1, flags=0x010203,
-        ),
-        version=1, flags=66051, entry_count=3,
-        entries=[
-            sample(11, (65536, 21, 22, 23), (24, 25, 26, 27), (28, 29, 30, 31)), sample(12),
-            sample(13, (32, 33, 34, 35)),
-        ],
-    )
+    """ISO/IEC 14496-12, 8.7.7. The sizes of parts have 16 bits in version 0, and 32 in version 1."""
+    for version, number, first in [(0, u16, 20), (1, u32, 0x10000)]:
+        yield fields(
+            full(
+                b"subs", u32(3),
+                u32(11), u16(3),
+                number(first), u8(21, 22), u32(23), number(24), u8(25, 26), u32(27), number(28), u8(29, 30), u32(31),
+                u32(12), u16(0),
+                u32(13), u16(1), number(32), u8(33, 34), u32(35),
+                version=version, flags=0x010203,
+            ),
+            version=version, flags=66051, entry_count=3,
+            entries=[
+                sample(11, (first, 21, 22, 23), (24, 25, 26, 27), (28, 29, 30, 31)), sample(12),
+                sample(13, (32, 33, 34, 35)),
+            ],
+        )
