@@ -66,6 +66,62 @@ fn show_named<B: StreamBox + Debug>(
     show_read(alloc, &found, reader, out)
 }
 
+/// Appends the two records of a box with the code `code`: one of `test_extra` that holds lists, or another box. Three
+/// functions have three arms each: the time of a proof grows faster than the number of arms.
+fn show_lists(
+    alloc: Global,
+    code: u32,
+    size: u64,
+    reader: &mut ByteCursor,
+    out: &mut Vec<u8>,
+) -> Result<(), AllocError>
+    requires { 8 ≤ reader.old.position }
+{
+    match code {
+        LINS => show_as::<LinesBox>(alloc, size, reader, out),
+        NEST => show_as::<NestedBox>(alloc, size, reader, out),
+        RUNS => show_as::<RunsBox>(alloc, size, reader, out),
+        code => show_numbers(alloc, code, size, reader, out),
+    }
+}
+
+/// Appends the two records of a box with the code `code`: one of `test_extra` that holds numbers, or another box.
+fn show_numbers(
+    alloc: Global,
+    code: u32,
+    size: u64,
+    reader: &mut ByteCursor,
+    out: &mut Vec<u8>,
+) -> Result<(), AllocError>
+    requires { 8 ≤ reader.old.position }
+{
+    match code {
+        NUMB => show_as::<NumbersBox>(alloc, size, reader, out),
+        OPTS => show_as::<OptionsBox>(alloc, size, reader, out),
+        RANG => show_as::<RangeBox>(alloc, size, reader, out),
+        code => show_parents(alloc, code, size, reader, out),
+    }
+}
+
+/// Appends the two records of a box with the code `code`: one of `test_extra` that holds strings or boxes, or one of
+/// `mp4_extra`.
+fn show_parents(
+    alloc: Global,
+    code: u32,
+    size: u64,
+    reader: &mut ByteCursor,
+    out: &mut Vec<u8>,
+) -> Result<(), AllocError>
+    requires { 8 ≤ reader.old.position }
+{
+    match code {
+        OUTR => show_as::<OuterBox>(alloc, size, reader, out),
+        STRS => show_as::<StringsBox>(alloc, size, reader, out),
+        TREP => show_as::<TrepBox>(alloc, size, reader, out),
+        code => show_named::<ExtraBox>(alloc, BoxType::UnknownBox(code), size, reader, out),
+    }
+}
+
 /// Appends two records of the box whose header is at the cursor. They are empty if its type isn't declared in
 /// `mp4_extra` or `test_extra`.
 pub(crate) fn show_declared(
@@ -78,15 +134,7 @@ pub(crate) fn show_declared(
         return push_record("", out);
     };
     match name {
-        BoxType::UnknownBox(LINS) => show_as::<LinesBox>(alloc, size, reader, out),
-        BoxType::UnknownBox(NEST) => show_as::<NestedBox>(alloc, size, reader, out),
-        BoxType::UnknownBox(NUMB) => show_as::<NumbersBox>(alloc, size, reader, out),
-        BoxType::UnknownBox(OPTS) => show_as::<OptionsBox>(alloc, size, reader, out),
-        BoxType::UnknownBox(OUTR) => show_as::<OuterBox>(alloc, size, reader, out),
-        BoxType::UnknownBox(RANG) => show_as::<RangeBox>(alloc, size, reader, out),
-        BoxType::UnknownBox(RUNS) => show_as::<RunsBox>(alloc, size, reader, out),
-        BoxType::UnknownBox(STRS) => show_as::<StringsBox>(alloc, size, reader, out),
-        BoxType::UnknownBox(TREP) => show_as::<TrepBox>(alloc, size, reader, out),
+        BoxType::UnknownBox(code) => show_lists(alloc, code, size, reader, out),
         name => show_named::<ExtraBox>(alloc, name, size, reader, out),
     }
 }
