@@ -76,12 +76,15 @@ def chunks():
             code = b"co64" if wide else b"stco"
             wanted = line(data, code, f"{STBL}/{code.decode()}", lies(f"chunk 1 at offset {offset}{said}"))
             found.append((f"chunk: {name}, {code.decode()}", data, [wanted] if said else []))
-    for name, beyond, size, said in (("at the end of the file", 0, 1, ""), ("behind the file", 5, 0, ""),
-                                     ("far behind", 2**40, 9, "")):
-        data = front() + moov(trak(stbl([0], [size], 1, True)))
+    for name, beyond, size, wide in (
+            ("at the end of the file", 0, 1, False), ("at the end of the file", 0, 1, True),
+            ("no bytes at the end of the file", 0, 0, False), ("behind the file", 5, 0, True),
+            ("far behind", 2**40, 9, True)):
+        data = front() + moov(trak(stbl([0], [size], 1, wide)))
         offset = len(data) + beyond
-        data = front() + moov(trak(stbl([offset], [size], 1, True)))
-        found.append((f"chunk: {name}", data, [line(data, b"co64", f"{STBL}/co64", lies(
+        data = front() + moov(trak(stbl([offset], [size], 1, wide)))
+        code = b"co64" if wide else b"stco"
+        found.append((f"chunk: {name}, {code.decode()}", data, [line(data, code, f"{STBL}/{code.decode()}", lies(
             f"chunk 1 at offset {offset}, past the end of the file ({len(data)} bytes)"))]))
     # A sample of 40 bytes by an stz2 is all of the media data, and one of 41 is too long.
     whole = stbl([MEDIA], [1])
@@ -133,6 +136,7 @@ def more_chunks():
         data = front() + moov(trak(stbl([3], [1]), 1, flags), trak(stbl([4], [1]), 2))
         found.append((f"a url of flags {flags}", data, [
             line(data, b"stco", SECOND + "/stco", lies("chunk 1 at offset 4, which is in no mdat"), 1)]))
+    found.append(("the only url has flags 2", front() + moov(trak(stbl([3], [1]), 1, 2)), []))
     data = front() + moov(trak(stbl([3], [1]), 1, 3))
     found.append(("a url of flags 3", data, [
         line(data, b"stco", f"{STBL}/stco", lies("chunk 1 at offset 3, which is in no mdat"))]))

@@ -1,5 +1,5 @@
-"""The parts that the tests of mp4inspect share: the files that it reads, these files with damage, and the check of its
-JSON against docs/inspect.schema.json."""
+"""The parts that the tests of mp4inspect share: the files that it reads, these files with damage, the names of boxes,
+and the check of its JSON against docs/inspect.schema.json."""
 
 import json
 import os
@@ -24,6 +24,16 @@ def text_of_tree(name):
     """Returns the stored text of the tree of the file `name`."""
     with open(os.path.join(FILES, name + ".txt"), encoding="utf-8") as file:
         return file.read()
+
+
+def called():
+    """Returns the names of boxes, from the table of mp4_walk."""
+    with open(os.path.join(TOP, "crates/mp4_walk/src/name.rt"), encoding="utf-8") as file:
+        text = file.read()
+    names = {}
+    for code, name in re.findall(r'\(\*b"((?:[^"\\]|\\.)*)", "([^"]*)"\)', text):
+        names[code.encode("latin-1").decode("unicode_escape")] = name
+    return names
 
 
 def schema(name):

@@ -286,6 +286,67 @@ def of_fragments():
     yield "no movie", front(), Answer([], [], False), {}
 
 
+def of_first_boxes():
+    """Yields tracks with two boxes of one code, of which the first counts, and files with boxes where they mean
+    nothing (8.5.1, 8.8.3, 8.8.6)."""
+    samples, tables = two()
+    shifted = [Sample(MEDIA, 10, 0, 10, 5, False), Sample(MEDIA + 10, 20, 10, 10, 5)]
+    second = b"".join(full(name, 0, 0, be(4, *numbers)) for name, *numbers in (
+        (b"ctts", 1, 2, 5), (b"ctts", 1, 2, 6), (b"stss", 1, 2), (b"stss", 1, 1), (b"stts", 1, 2, 99),
+        (b"stsc", 1, 1, 1, 7), (b"stsz", 0, 2, 7, 8), (b"stco", 2, MEDIA + 1, MEDIA + 2)))
+    data = front() + moov(trak(stbl([MEDIA, MEDIA + 10], [10, 20], 1, False, second)))
+    yield "two tables of each code", data, Answer([of(data, shifted)]), {}
+    # An stco counts, wherever it is.
+    narrow = full(b"stco", 0, 0, be(4, 2, MEDIA, MEDIA + 10))
+    data = front() + moov(trak(stbl([MEDIA + 3, MEDIA + 4], [10, 20], 1, True, narrow)))
+    yield "a co64 before an stco", data, Answer([of(data, samples)]), {}
+    media, other = mdhd(SCALE, b"und") + handler(b"vide", b""), box(b"udta", stbl([MEDIA + 3], [9]))
+    data = front() + moov(box(b"trak", tkhd(1) + box(b"mdia", media + other + box(b"minf", tables))))
+    yield "an stbl in a udta before the minf", data, Answer([of(data, samples)]), {}
+    run = lambda begin: traf(1, 0x20000, b"", trun(begin, [], 2))
+    head = ftyp(b"iso5", b"iso5") + moov(trak(tables), box(b"udta", trex(1, 5)), box(b"mvex", trex(1, 7)))
+    size = len(moof(run(0)))
+    data, begin = head + moof(run(size + 8)) + box(b"mdat", bytes(40)), len(head) + size + 8
+    yield "a trex in a udta before the mvex", data, Answer([of(data, samples, fragments=Samples([
+        Sample(begin, 7, 20, 10), Sample(begin + 7, 7, 30, 10)]))], [Traf(len(head), 1)]), {}
+    data = front() + moov(trak(tables), box(b"mvex", trex(1, 7)), run(0))
+    yield "a traf in a moov", data, Answer([of(data, samples)]), {}
+    # Sync samples that the track doesn't have are no fault.
+    data = front() + moov(trak(stbl([MEDIA, MEDIA + 10], [10, 20], 1, False, full(b"stss", 0, 0, be(4, 2, 1, 9)))))
+    yield "an stss of more samples than there are", data, Answer([
+        of(data, [samples[0], samples[1]._replace(is_sync=False)])]), {}
+
+
+def of_runs():
+    """Yields fragments with runs of no samples, in no order, with flags of both kinds, and with late times (8.8.7,
+    8.8.8, docs/SAMPLES.md)."""
+    samples, tables = two()
+
+    def case(name, listed, *trafs):
+        data, place, media = fragmented(tables, [trex(1, 7)], *trafs)
+        return name, data, Answer([of(data, samples, fragments=listed(media, place))], [
+            Traf(place, 1) for _ in trafs]), {}
+    # The last run ends before the first one does. The data of the next traf begin there.
+    yield case("a traf after one whose last run is in front", lambda media, place: Samples([
+        Sample(media + 10, 4, 20, 10), Sample(media, 3, 30, 10), Sample(media + 3, 6, 40, 10)]),
+               lambda begin: traf(1, 0x20000, b"", trun(begin + 10, [4]), trun(begin, [3])),
+               lambda begin: traf(1, 0, b"", trun(None, [6])))
+    # A run of no samples still has a place, which the next one goes on from.
+    yield case("a run after one of no samples", lambda media, place: Samples([
+        Sample(media, 4, 20, 10), Sample(media + 9, 6, 30, 10)]),
+               lambda begin: traf(1, 0x20000, b"", trun(begin, [4]), trun(begin + 9, []), trun(None, [6])))
+    # The flags of the first sample take the place of a default only.
+    flags = full(b"trun", 0, 0x605, be(4, 2))
+    yield case("a run with flags of its first sample and of each", lambda media, place: Samples([
+        Sample(media, 4, 20, 10, 0, False), Sample(media + 4, 6, 30, 10)]),
+               lambda begin: traf(1, 0x20000, b"", be(4, len(flags) + 24) + flags[4:] + be(
+                   4, begin, 0x2000000, 4, 0x10000, 6, 0x2000000)))
+    late = full(b"tfdt", 1, 0, be(8, 2**64 - 15))
+    yield case("a fragment that ends past 2^64 - 1", lambda media, place: Samples(
+        [Sample(media, 4, 2**64 - 15, 10)], Problem(f"moof at {place}: sample 1 of run 0 ends past 2^64 - 1")),
+               lambda begin: traf(1, 0x20000, b"", late, trun(begin, [4, 6])))
+
+
 # An elementary stream of AAC LC, 44,100 Hz, with 2 channels (ISO/IEC 14496-1, 7.2.6; 14496-3, 1.6.2.1).
 SPECIFIC = b"\5\2\x12\x10"
 ESDS = full(b"esds", 0, 0, b"\3\x19\0\1\0" + b"\4\x11\x40\x15" + bytes(11) + SPECIFIC + b"\6\1\2")
@@ -337,4 +398,4 @@ def of_entries():
 
 def cases():
     return [*in_second_moov(), *without_sizes(), *of_compact_sizes(), *without_track_id(), *of_one_track_id(),
-            *without_boxes(), *of_fragments(), *of_entries()]
+            *without_boxes(), *of_fragments(), *of_first_boxes(), *of_runs(), *of_entries()]

@@ -300,9 +300,6 @@ def refused(runs, random_):
     for name in (b"moof", b"sidx"):
         data = made(random_, [one], front=ftyp(b"isom") + box(name, bytes(24) if name == b"sidx" else b""))
         runs.refuses(data, f"{name.decode()} at {len(ftyp(b'isom'))}: its offsets can't be shifted")
-    away = plain.index(full(b"url ", 0, 1))
-    data = plain[:away + 8] + bytes(4) + plain[away + 12:]
-    runs.refuses(data, f"url  at {away}: the media data are in another file")
     # A track is named by its number, counted from 1, and the position of its trak.
     traks = [it[1] for it in inner(plain, tops[b"moov"]) if it[0] == b"trak"]
     lost = "overlaps the moov, or lies on both sides of the place where it goes"
@@ -333,15 +330,49 @@ def refused(runs, random_):
         top = next(it for it in boxes(data, 0, len(data), True) if it[0] == b"moov")
         at = [it[1] for it in inner(data, top) if it[0] == b"trak"][1]
         runs.refuses(data, f"trak 2 at {at}: stz2 at {data.index(b'stz2') - 4}: {text}")
-    # An offset of 32 bits would overflow.
-    runs.write("in.mp4", ftyp(b"isom") + be(4, 1) + b"mdat" + be(8, 2**32 - 100))
+
+
+def references(runs, random_):
+    """Checks files whose media data are in another file: a reference of any kind lacks the flag of the same file
+    (ISO/IEC 14496-12, 8.7.2; an `alis` is QuickTime's)."""
+    data = made(random_, [Track(1, [[10, 20], [30]])])
+    away = data.index(full(b"url ", 0, 1))
+    for code in (b"url ", b"urn ", b"alis"):
+        runs.refuses(data.replace(full(b"url ", 0, 1), full(code, 0, 0)),
+                     f"{code.decode()} at {away}: the media data are in another file")
+        runs.refuses(data.replace(full(b"url ", 0, 1), full(code, 0, 2)),
+                     f"{code.decode()} at {away}: the media data are in another file")
+    runs.moves("an alis in the same file", data.replace(full(b"url ", 0, 1), full(b"alis", 0, 1)))
+
+
+def behind_the_movie(runs, random_):
+    """Checks files with boxes behind the moov that are refused before it: what they lead to is behind them."""
+    one = Track(1, [[10, 20], [30]])
+    index = full(b"sidx", 0, 0, be(4, 1, 1000, 0, 0) + be(2, 0, 0))
+    fragment = box(b"moof", full(b"mfhd", 0, 0, be(4, 1)) + box(b"traf", full(b"tfhd", 0, 0x20000, be(4, 1))))
+    runs.moves("an index behind the moov", made(random_, [one], behind=index))
+    runs.moves("a fragment behind the moov", made(random_, [one], behind=fragment))
+
+
+def largest_offset(runs):
+    """Checks that an offset may become 2^32 - 1, and no more. Track 2, which is looked at after the offsets, has no
+    `stsc`, so that no file is written."""
     start = len(ftyp(b"isom"))
-    moov = movie(Track(1, [[10]]).box([2**32 - 130]))
-    with open(runs.path("in.mp4"), "r+b") as file:
-        file.seek(start + 2**32 - 100)
-        file.write(moov)
-    at = start + 2**32 - 100 + moov.index(b"stco") - 4
-    runs.run(1, "", f"mp4inspect: in.mp4: stco at {at}: an offset would be too large\n", "in.mp4", "none.mp4")
+    media = 2**32 - 100
+
+    def moov(offset):
+        found = movie(Track(1, [[1]]).box([offset]), Track(2, [[1]]).box([start + 16]))
+        return found[:found.rindex(b"stsc")] + b"free" + found[found.rindex(b"stsc") + 4:]
+    largest = 2**32 - 1 - len(moov(0))
+    begin = start + media
+    for offset, text in (
+            (largest, f"trak 2 at {begin + moov(0).rindex(b'trak') - 4}: there is no stsc"),
+            (largest + 1, f"stco at {begin + moov(0).index(b'stco') - 4}: an offset would be too large")):
+        runs.write("in.mp4", ftyp(b"isom") + be(4, 1) + b"mdat" + be(8, media))
+        with open(runs.path("in.mp4"), "r+b") as file:
+            file.seek(begin)
+            file.write(moov(offset))
+        runs.run(1, "", f"mp4inspect: in.mp4: {text}\n", "in.mp4", "none.mp4")
     os.remove(runs.path("in.mp4"))
 
 
@@ -575,6 +606,15 @@ class FastStart(unittest.TestCase):
 
     def test_refusals(self):
         refused(self.runs, self.random)
+
+    def test_references_to_other_files(self):
+        references(self.runs, self.random)
+
+    def test_boxes_behind_the_movie(self):
+        behind_the_movie(self.runs, self.random)
+
+    def test_largest_offset(self):
+        largest_offset(self.runs)
 
     def test_ends_that_fail(self):
         ends(self.runs, self.random)

@@ -4,6 +4,7 @@
 - Stored files (tests/files/texts/*.hex, as hexadecimal text) and those of made.py, with sample entries of many
   kinds, QuickTime's sound, texts, dates, metadata, and each box of crates/mp4_extra. Their texts are stored in
   tests/files/texts (*.txt), as the second computation has them. The test prints how many boxes are shown with fields.
+- Short files, each with lines that were typed by hand (short.py).
 - Every beginning of the plain and of the fragmented file, in which each whole box has its lines from the whole file.
 - Files with damage.
 - Files with one fault each for `check`, and files that are close to one, with their lines (faulty.py).
@@ -28,9 +29,9 @@ import threading
 import time
 import unittest
 
-from tests.built import TOP, built, number
-from tests.files import faulty, made
-from tests.files.inspected import check_schema, damaged, files, load, schema, text_of_tree
+from tests.built import built, number
+from tests.files import faulty, made, short
+from tests.files.inspected import called, check_schema, damaged, files, load, schema, text_of_tree
 from tests.files.made import in_chunks, in_fragment, in_runs
 from tests.files.stored import FILES, stored
 from tests.readers.inspect import document, every, faults, is_escaped, is_faulty, lines, tree
@@ -45,16 +46,6 @@ SHOWN = 98
 
 def fail(text):
     raise AssertionError(text)
-
-
-def called():
-    """Returns the names of boxes, from the table of mp4_walk."""
-    with open(os.path.join(TOP, "crates/mp4_walk/src/name.rt"), encoding="utf-8") as file:
-        text = file.read()
-    names = {}
-    for code, name in re.findall(r'\(\*b"((?:[^"\\]|\\.)*)", "([^"]*)"\)', text):
-        names[code.encode("latin-1").decode("unicode_escape")] = name
-    return names
 
 
 class Runs:
@@ -568,6 +559,17 @@ class Inspect(unittest.TestCase):
         self.runs.same(self.runs.compared(data, name), text_of_tree(name).split("\n")[:-1], f"{name}, the stored text")
         self.runs.compared(data, f"{name}, 2 rows", 2)
 
+    def of_short_file(self, name, data, wanted):
+        """Compares the lines of a short file with those that were typed for it, and all other output."""
+        self.runs.same(self.runs.out(0, "-", input=data).split("\n"), [*wanted, ""], name)
+        self.runs.compared(data, name)
+
+    def of_faulty_file(self, name, data, wanted):
+        """Compares the faults of a file with the lines that were worked out for it, and all other output."""
+        found = self.runs.out(int(bool(wanted)), "check", "-", input=data)
+        self.runs.same(found.split("\n"), [*wanted, ""], f"check, {name}")
+        self.runs.compared(data, f"check, {name}")
+
     def test_each_beginning_of_the_plain_file(self):
         cuts(self.runs, "plain")
 
@@ -578,13 +580,6 @@ class Inspect(unittest.TestCase):
         random_, sound = random.Random(number("SEED", 1)), list(files().values())
         for which in range(number("COUNT", 300)):
             self.runs.compared(damaged(random_, random_.choice(sound)), f"damaged file {which}")
-
-    def test_faults_of_files_with_one_each(self):
-        for name, data, wanted in faulty.cases():
-            with self.subTest(name):
-                found = self.runs.out(int(bool(wanted)), "check", "-", input=data)
-                self.runs.same(found.split("\n"), [*wanted, ""], f"check, {name}")
-                self.runs.compared(data, f"check, {name}")
 
     def test_terminals(self):
         terminals(self.runs, stored("plain"))
@@ -616,8 +611,12 @@ class Inspect(unittest.TestCase):
         print(f"inspect: of {boxes} boxes that can be read and hold more than boxes, {found} are shown with fields")
 
 
-def test_of(name):
-    return lambda self: self.of_file(name)
+def add(name, method, *case):
+    """Adds the test `name`, which calls `method` with `case`. Raises ValueError if there is another with this name."""
+    name = "_".join(["test", *re.findall(r"\w+", name)])
+    if hasattr(Inspect, name):
+        raise ValueError(f"two tests have the name {name}")
+    setattr(Inspect, name, lambda self: method(self, *case))
 
 
 def setUpModule():
@@ -628,7 +627,11 @@ def setUpModule():
 
 
 for one in files():
-    setattr(Inspect, f"test_file_{one}", test_of(one))
+    add(f"file_{one}", Inspect.of_file, one)
+for one in short.cases():
+    add(f"short_{one[0]}", Inspect.of_short_file, *one)
+for one in faulty.cases():
+    add(f"check_{one[0]}", Inspect.of_faulty_file, *one)
 
 if __name__ == "__main__":
     unittest.main()

@@ -2,9 +2,9 @@
 
 Each change of wrong-definitions.txt is made in a copy of the repository. There the tests of the crates, the rows of
 test_rows and some inputs of test_differential run without proof, and the rows of the changed box run first. For a
-change of what is shown, only its rows with fields or its trees run, by mp4inspect. A test has to fail. If the change
-names the tests that are made for it, one of these has to fail. Prints for each change which tests failed, up to those
-that catch it, and at the end the changes that no test caught. There must be none.
+change of what mp4inspect writes, only its rows with fields or its tests of the program run. A test has to fail. If the
+change names the tests that are made for it, one of these has to fail. Prints for each change which tests failed, up to
+those that catch it, and at the end the changes that no test caught. There must be none.
 
     python3 -m tests.prover.wrong_definitions [--only WORD] [--apart] [--jobs N] [--list] [--prove]
 
@@ -20,7 +20,7 @@ It needs about a minute for each run of the tests. It is not part of the gate.
 """
 import argparse
 import concurrent.futures
-import json
+import functools
 import os
 import queue
 import re
@@ -28,24 +28,26 @@ import shutil
 import subprocess
 import sys
 import tempfile
+import unittest
 
 from tests.built import TOP
-from tests.files.inspected import files, text_of_tree
 from tests.readers.compared import (
     differences, fields_otherwise, misplaced, otherwise, outcomes_by_layout, trees_otherwise,
 )
 from tests.readers.inputs import Maker
-from tests.readers.inspect import plain, tree
 from tests.readers.shown import records, texts_of
-from tests.readers.test_containers import lines
 from tests.rows import rows
 
 CHANGES = os.path.join(TOP, "tests", "prover", "wrong-definitions.txt")
 # Three names beside those of the crates: the rows, which the program test_probe reads; the rows with the fields of
-# boxes, and the files of test_inspect, which the program mp4inspect shows.
+# boxes, which the program mp4inspect shows; and the tests of PROGRAM_TESTS, which run mp4inspect. Those whose names
+# LIBRARY matches call the library for C.
 ROWS = "rows"
 FIELDS = "fields"
-TREES = "trees"
+PROGRAMS = "programs"
+PROGRAM_TESTS = ["programs.test_inspect", "programs.test_faststart", "readers.test_containers",
+                 "interfaces.test_one_answer", "interfaces.test_library"]
+LIBRARY = re.compile(r"programs::(test_library::|\w+::\w+_by_(python|rust)$)")
 # The number of inputs of test_differential that are read with the rows, and the number of bytes that are read at once.
 # The text of a longer row may be longer than the output that a run without proof keeps.
 INPUTS = 2000
@@ -90,7 +92,17 @@ class Change:
         self.name = name
         self.line = line
         self.edits = []
-        self.tests = None
+        self.tests = self.also_fails = None
+
+    def files(self):
+        return {edit[0] for edit in self.edits}
+
+    def has_a_single_test(self):
+        return self.tests is not None and self.tests.endswith("$")
+
+    def can_fail_tests_of(self, other):
+        """Returns whether the change is known to fail the tests that are made for the change `other`."""
+        return self.also_fails is not None and re.match(self.also_fails, other.tests) is not None
 
     def box(self):
         return self.name.split(":")[0]
@@ -133,6 +145,8 @@ def read_changes():
                 file = None
             elif key == "tests" and changes and not changes[-1].edits:
                 changes[-1].tests = text
+            elif key == "also fails" and changes and changes[-1].tests and not changes[-1].edits:
+                changes[-1].also_fails = text
             elif key == "file" and changes:
                 file = os.path.join("crates", text)
             elif key in ("old", "every", "swap") and file and not waiting:
@@ -212,6 +226,8 @@ class Copy:
             return [] if kept else [name for name in names if name == "out"]
 
         shutil.copytree(os.path.join(TOP, "crates"), os.path.join(folder, "crates"), ignore=left_out)
+        for name in ("tools", "include"):
+            shutil.copytree(os.path.join(TOP, name), os.path.join(folder, name))
         for name in ("crates.txt", "HANDLES"):
             shutil.copy(os.path.join(TOP, name), folder)
 
@@ -294,21 +310,30 @@ class Copy:
                 failed[name] = True
         return list(failed)
 
-    def failed_trees(self):
-        """Returns the names of the files of test_inspect.py and of the lines of tests/containers.txt whose tree
-        differs."""
-        of_files = files()
-        found = self.outputs("mp4_inspect", list(of_files.values()), "--", "-")
-        if found is None:
-            return [f"{TREES}: the program stops at a fault"]
-        texts = [out.decode("utf-8").strip("\n") for out in found]
-        failed = [f"{TREES}::{name}" for name, text in zip(of_files, texts) if text != text_of_tree(name).strip("\n")]
-        of_lines = [(line, line.file()[0]) for line in lines()]
-        found = self.outputs("mp4_inspect", [data for _, data in of_lines], "--", "--json", "-")
-        if found is None:
-            return failed + [f"{TREES}: the program stops at a fault"]
-        return failed + [f"{TREES}::container_{line.code.decode()}" for (line, data), out in zip(of_lines, found)
-                         if json.loads(out)[0]["boxes"] != plain(tree(data))]
+    def build(self, *words):
+        """Builds a program or the library without proof. Raises Refused if it doesn't compile."""
+        words = [sys.executable, os.path.join(self.folder, "tools", "building.py"), *words]
+        ran = subprocess.run(words, stdin=subprocess.DEVNULL, stdout=subprocess.PIPE, stderr=subprocess.STDOUT)
+        if ran.returncode:
+            raise Refused(f"it doesn't compile\n{ran.stdout.decode('utf-8', 'replace')[-2000:]}")
+
+    def failed_programs(self, changes):
+        """Returns the names of the tests of PROGRAM_TESTS made for `changes` that fail with mp4inspect, and with the
+        library if one calls it, as these are built here. Raises Refused if they don't compile."""
+        named = {name: test for name, test in program_tests().items() if any(it.caught_by([name]) for it in changes)}
+        with tempfile.TemporaryDirectory(dir=self.folder) as folder:
+            environment = {**os.environ, "TEST_PROGRAMS": folder, "TEST_LIBRARY": os.path.join(folder, "library")}
+            self.build("program", "mp4_inspect", os.path.join(folder, "mp4_inspect"))
+            if any(map(LIBRARY.match, named)):
+                self.build("library", environment["TEST_LIBRARY"])
+            words = [sys.executable, "-m", "unittest", *named.values()]
+            how = {"stdin": subprocess.DEVNULL, "stdout": subprocess.PIPE, "stderr": subprocess.STDOUT}
+            ran = subprocess.run(words, cwd=TOP, env=environment, **how)
+        said = ran.stdout.decode("utf-8", "replace")
+        if not re.search(rf"^Ran {len(named)} tests? in ", said, re.M):
+            raise Refused(f"the tests of mp4inspect don't run\n{said[-2000:]}")
+        failed = re.findall(r"^(?:FAIL|ERROR): (\w+) \((?:\w+\.)*?(test_\w+)\.", said, re.M)
+        return [name for name in named if (name.split("::")[2], name.split("::")[1]) in failed]
 
     def failed_tests(self, crate, changes=()):
         """Returns the names of the tests of `crate` that fail, and of the rows that can catch `changes`. Raises Refused
@@ -318,8 +343,8 @@ class Copy:
             return self.failed_rows(chosen or all_rows(), 0 if chosen else INPUTS)
         if crate == FIELDS:
             return self.failed_fields(changes)
-        if crate == TREES:
-            return self.failed_trees()
+        if crate == PROGRAMS:
+            return self.failed_programs(changes)
         ran = self.rt(crate, "try", "--test")
         failed = [f"{crate}::{name}" for name in re.findall(r"^test (\S+) \.\.\. (?!ok)", ran.stdout, re.M)]
         if ran.returncode == FAULT:
@@ -337,7 +362,7 @@ class Copy:
             found = []
             for crate in crates_for(changes):
                 if everything or not enough(changes, found):
-                    found += self.failed_tests(crate, () if everything else changes)
+                    found += self.failed_tests(crate, () if everything and crate != PROGRAMS else changes)
             if not everything and len(changes) == 1 and not found and not changes[0].tests and rows_for(changes):
                 found += self.failed_tests(ROWS)
             return found
@@ -357,6 +382,23 @@ class Copy:
             self.restore(files)
 
 
+def tests_in(suite):
+    for it in suite:
+        yield from tests_in(it) if isinstance(it, unittest.TestSuite) else [it]
+
+
+@functools.cache
+def program_tests():
+    """Returns the tests of PROGRAM_TESTS: the names by which unittest runs them, by the names that changes have for
+    them."""
+    found = {}
+    for module in PROGRAM_TESTS:
+        for it in tests_in(unittest.defaultTestLoader.loadTestsFromName(f"tests.{module}")):
+            *_, file, _, name = it.id().split(".")
+            found[f"{PROGRAMS}::{file}::{name}"] = it.id()
+    return found
+
+
 def known_boxes():
     """Returns the boxes that have a vector."""
     with open(os.path.join(TOP, "crates", "mp4_ported", "src", "vectors", "second.rt"), encoding="utf-8") as source:
@@ -366,17 +408,29 @@ def known_boxes():
 BOXES = known_boxes()
 
 
+def both_can_be_made(one, other):
+    """Returns whether the edits of two changes don't meet in one place."""
+    if not one.files() & other.files():
+        return True
+    try:
+        made([one, other])
+    except Refused:
+        return False
+    return True
+
+
 def go_together(one, other):
     """Returns whether two changes can be made together, so that for each of them a failed test shows that it is
     caught."""
     related = any({one.box(), other.box()} <= boxes for boxes in RELATED)
-    if f"{TREES}::" in (one.tests, other.tests) and one.crates() == other.crates():
-        return False
     if one.is_of(MORE) != other.is_of(MORE):
         return False
     if one.tests or other.tests:
         apart = not (one.tests and other.tests) or one.tests == other.tests or one.crates() != other.crates()
-        return not apart and one.box() != other.box() and not related
+        if apart or one.can_fail_tests_of(other) or other.can_fail_tests_of(one):
+            return False
+        has_own = one.box() != other.box() or one.has_a_single_test() and other.has_a_single_test()
+        return has_own and not related and both_can_be_made(one, other)
     if one.box() in SHARED or other.box() in SHARED:
         return one.box() in SHARED and other.box() in SHARED and one.box() != other.box()
     return one.box() in BOXES and other.box() in BOXES and one.box() != other.box() and not related
@@ -387,7 +441,7 @@ def rounds_of(changes):
     rounds = []
     for change in changes:
         for members in rounds:
-            if all(go_together(change, it) for it in members):
+            if all(go_together(it, change) for it in members):
                 members.append(change)
                 break
         else:
@@ -458,7 +512,8 @@ def tried(copies, changes, everything):
     finally:
         copies.put(copy)
     # One of them doesn't compile.
-    return [it for change in changes for it in tried(copies, [change], everything)]
+    half = len(changes) // 2
+    return tried(copies, changes[:half], everything) + tried(copies, changes[half:], everything)
 
 
 def main():
@@ -496,7 +551,8 @@ def main():
 def run(copies, changes, given):
     copy = copies.get()
     crates = {crate for change in changes for crate in change.crates()}
-    unchanged = [test for crate in sorted(crates) for test in copy.failed_tests(crate)]
+    unchanged = [test for crate in sorted(crates)
+                 for test in copy.failed_tests(crate, changes if crate == PROGRAMS else ())]
     copies.put(copy)
     if unchanged:
         sys.exit("without a change these tests fail: " + ", ".join(unchanged))

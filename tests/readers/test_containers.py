@@ -37,6 +37,10 @@ class Line:
         self.starts = b"" if starts == "-" else bytes.fromhex(starts)
         self.before, self.in_tree = (None if it == "-" else int(it) for it in (before, in_tree))
 
+    def name(self):
+        """Returns the name of the test of this line: its first five columns."""
+        return re.sub(r"\W+", "_", " ".join(self.text.split()[:5])).strip("_")
+
     def content(self, before):
         """Returns a content with `before` bytes before a box. Without such a number it is all boxes."""
         return 10 * FREE if before is None else self.starts.ljust(before, b"\0") + FREE
@@ -103,10 +107,11 @@ def test_of(method, line):
     return lambda self: method(self, line)
 
 
-for number, one in enumerate(lines(), 1):
-    words = re.sub(r"\W+", "_", " ".join(one.text.split()[:5]))
-    setattr(Containers, f"test_{number:03}_{words}", test_of(Containers.compare, one))
-    setattr(Containers, f"test_{number:03}_{words}_in_a_tree", test_of(Containers.compare_tree, one))
+for one in lines():
+    if hasattr(Containers, f"test_{one.name()}"):
+        raise ValueError(f"two lines have one name: {one.text}")
+    setattr(Containers, f"test_{one.name()}", test_of(Containers.compare, one))
+    setattr(Containers, f"test_{one.name()}_in_a_tree", test_of(Containers.compare_tree, one))
 
 if __name__ == "__main__":
     unittest.main()

@@ -71,6 +71,23 @@ def fields_of_encryption():
     )
 
 
+def fields_of_no_encryption():
+    """A description has a constant vector only if its samples are protected (ISO/IEC 23001-7, 6). The next one begins
+    after its key."""
+    clear = u8(0, 0x5A, 0, 0), counting(0x81, 0x90)
+    of_each_sample = u8(7, 0x19, 1, 8), counting(0x91, 0xA0)
+    yield fields(
+        full(b"sgpd", b"seig", u32(2), *clear, *of_each_sample, version=0, flags=41),
+        version=0, flags=41, grouping_type="seig", entry_count=2,
+        entries=[
+            {"crypt_byte_block": 5, "skip_byte_block": 10, "isProtected": 0, "Per_Sample_IV_Size": 0,
+             "KID": "8182838485868788898a8b8c8d8e8f90"},
+            {"reserved": 7, "crypt_byte_block": 1, "skip_byte_block": 9, "isProtected": 1, "Per_Sample_IV_Size": 8,
+             "KID": "9192939495969798999a9b9c9d9e9fa0"},
+        ],
+    )
+
+
 def fields_of_other_groups():
     """ISO/IEC 14496-12, 8.9.3."""
     yield fields(

@@ -111,6 +111,41 @@ fn are_told_of_offsets(alloc: Global) -> bool {
         && is_told_of_offsets(alloc, &[PAST; 5], &DOES_NOT_FIT)
 }
 
+/// Sync samples, of which the second is not above the first.
+const EQUAL_SYNCS: Option<&[u32]> = Some(&[4, 4]);
+
+/// Returns whether `listed`, with sync samples that do not increase, disagrees as `wanted`.
+fn is_told_of_equal_syncs(alloc: Global, listed: Listed, wanted: Disagreement) -> bool {
+    let equal = Listed {
+        syncs: EQUAL_SYNCS,
+        ..listed
+    };
+    is_told(alloc, &equal, &Some(wanted))
+}
+
+/// Returns whether a wrong count of sizes is reported before sync samples, and a chunk offset after them.
+fn are_told_in_order(alloc: Global) -> bool {
+    let counted = Listed {
+        sample_count: 8,
+        ..worked()
+    };
+    let far = Listed {
+        long_offsets: &[PAST; 5],
+        ..worked()
+    };
+    let sizes = Disagreement::SampleSizes {
+        count: 8,
+        listed: 7,
+    };
+    is_told_of_equal_syncs(alloc, counted, sizes)
+        && is_told_of_equal_syncs(alloc, far, Disagreement::SyncSamples { index: 1 })
+}
+
+#[test]
+fn first_disagreement_is_told(rt: HostRuntime) {
+    assert!(rt; are_told_in_order(rt.alloc()));
+}
+
 /// Returns whether each disagreement of counts is reported.
 fn are_told_of_counts(alloc: Global) -> bool {
     is_told_of_sizes(alloc) && are_told_of_six(alloc)

@@ -143,6 +143,26 @@ const ENDLESS: Case = Case {
     shown: &[(40_000, Some(2), Some(50_240))],
 };
 
+/// A second of media, and then a last edit that is empty and has no duration. A second has 10 * 1000 = 10000 ticks.
+const EMPTY_END: Case = Case {
+    version: 0,
+    edits: &[edit!(10, 0, 1), edit!(0, 0xFFFF_FFFF, 1)],
+    movie_timescale: 10,
+    media_timescale: 1000,
+    presented: &[(999, &[(0, 9_990)]), (1000, &[])],
+    shown: &[(9_999, Some(0), Some(9_999)), (10_000, None, None)],
+};
+
+/// A second of media, and then a last edit that holds media time 500 and has no duration.
+const DWELL_END: Case = Case {
+    version: 0,
+    edits: &[edit!(10, 0, 1), edit!(0, 500, 0)],
+    movie_timescale: 10,
+    media_timescale: 1000,
+    presented: &[(500, &[(0, 5_000)])],
+    shown: &[(9_999, Some(0), Some(9_999)), (10_000, None, None)],
+};
+
 /// An edit list without entries: the media is presented unchanged.
 const NO_EDITS: Case = Case {
     version: 0,
@@ -226,6 +246,16 @@ fn are_three(alloc: Global) -> bool {
 #[test]
 fn without_a_duration_or_without_edits(rt: HostRuntime) {
     assert!(rt; are_three(rt.alloc()) && are_without_a_box() && are_latest());
+}
+
+/// Returns whether a last edit without a duration ends at once if it is empty or holds one media time.
+fn end_at_once(alloc: Global) -> bool {
+    is(alloc, &EMPTY_END) && is(alloc, &DWELL_END)
+}
+
+#[test]
+fn last_edits_that_do_not_play(rt: HostRuntime) {
+    assert!(rt; end_at_once(rt.alloc()));
 }
 
 /// Returns whether an `elst` with this version and these edits has `fault`, or no fault if that is `None`.

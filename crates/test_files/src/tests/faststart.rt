@@ -23,6 +23,16 @@ fn bytes_of_the_media_data_are_moved(rt: HostRuntime) {
     assert!(rt; are_moved());
 }
 
+/// Returns whether offsets in the `moov` stay.
+fn stay_in_the_movie() -> bool {
+    MOVE.moved(31) == Some(31) && MOVE.moved(347) == Some(347)
+}
+
+#[test]
+fn offsets_in_the_movie_stay(rt: HostRuntime) {
+    assert!(rt; stay_in_the_movie());
+}
+
 /// Returns whether bytes that end at the end of a part are kept together, and bytes that continue past it are not.
 fn are_kept_up_to_a_cut() -> bool {
     MOVE.keeps(10, 6) && !MOVE.keeps(10, 7) && MOVE.keeps(16, 15) && !MOVE.keeps(16, 16)

@@ -306,6 +306,18 @@ fn track_with_an_unknown_header(rt: HostRuntime) {
     assert!(rt; is_listed_without_id(rt.alloc()));
 }
 
+/// Returns whether the second track is found by its track_ID if the `tkhd` of the first has version 2.
+fn is_found_after_a_fault(alloc: Global) -> bool {
+    let mut file = FILE;
+    file[24] = 2;
+    finds(alloc, &file, 7)
+}
+
+#[test]
+fn track_after_an_unknown_header(rt: HostRuntime) {
+    assert!(rt; is_found_after_a_fault(rt.alloc()));
+}
+
 /// Returns whether `info` has the track_ID 7.
 fn is_seven(info: &TrackInfo) -> bool {
     matches!(info.track_id, Ok(7))
