@@ -1,4 +1,4 @@
-"""Short files, with the output of `mp4inspect` for each. The output was typed by hand, by docs/PROGRAMS.md ("The
+"""Short files, and the output of `mp4inspect` over each file. The output was typed by hand, by docs/PROGRAMS.md ("The
 tree") and the standards. A file shows one thing, so that only one wrong definition of
 tests/prover/wrong-definitions.txt fails its test."""
 
