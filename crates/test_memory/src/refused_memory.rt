@@ -167,10 +167,19 @@ fn clone_of<T: TryClone + PartialEq + Drop>(original: &T) -> Result<T, Ending> {
     }
 }
 
+/// Clones `original`, compares the two, drops the original and returns the clone.
+fn only_clone_of<T: TryClone + PartialEq + Drop>(original: T) -> Result<T, Ending> {
+    clone_of(&original)
+}
+
+/// Makes the box of `vector`, and returns a clone of it.
+fn clone_made<V: Vector>(alloc: Global, vector: V) -> Result<AnyBox, Ending> {
+    only_clone_of(made(alloc, vector)?)
+}
+
 /// Makes, clones, writes and reads the box of `vector`.
 fn write_and_read<V: Vector>(alloc: Global, vector: V) -> Result<(), Ending> {
-    let original = made(alloc, vector)?;
-    let clone = clone_of(&original)?;
+    let clone = clone_made(alloc, vector)?;
     round_trip(alloc, slice::from_ref(&clone), vector.bytes())
 }
 

@@ -37,6 +37,11 @@ fn read_one(alloc: Global, bytes: &[u8]) -> mp4_stream::Result<AnyBox> {
     AnyBox::read_named(alloc, header.name, &mut reader, header.size)
 }
 
+/// Returns whether the box at the start of `bytes` is read.
+fn is_read(alloc: Global, bytes: &[u8]) -> bool {
+    read_one(alloc, bytes).map(drop).is_ok()
+}
+
 /// Streams whose fault is found before any memory is asked for: a size of 2, a version that `mvhd` does not have, and
 /// counts of two entries in boxes with one entry.
 const INVALID: [&[u8]; 5] = [
@@ -82,13 +87,10 @@ pub fn read_lists_without_memory(alloc: Global) -> Result<(), Ending> {
 
 /// Reads the boxes in `WITHOUT_MEMORY`, which must succeed even if every request for memory is refused.
 pub fn read_without_memory(alloc: Global) -> Result<(), Ending> {
-    if WITHOUT_MEMORY
-        .iter()
-        .any(|bytes| read_one(alloc, bytes).is_err())
-    {
-        Err(Ending::Wrong)
-    } else {
+    if WITHOUT_MEMORY.iter().all(|bytes| is_read(alloc, bytes)) {
         Ok(())
+    } else {
+        Err(Ending::Wrong)
     }
 }
 
@@ -96,7 +98,7 @@ pub fn read_without_memory(alloc: Global) -> Result<(), Ending> {
 pub fn read_vectors_without_memory<V: Vector>(alloc: Global, vectors: &[V]) -> Result<(), Ending> {
     for vector in vectors {
         let bytes = vector.bytes();
-        if asks_no_memory(bytes) && read_one(alloc, bytes).is_err() {
+        if asks_no_memory(bytes) && !is_read(alloc, bytes) {
             return Err(Ending::Wrong);
         }
     }
