@@ -2,16 +2,17 @@
 
 ghost use Rattle.std.specs.Prelude.{◌≤◌};
 
-use crate::structure::Level;
+use crate::structure::{Leaf, Level};
 use crate::{push_record, show};
-use mp4_box_tree::{BoxTree, Container};
-use mp4_compose::ChildBox;
+use mp4_box_tree::{AllBoxes, BoxTree, Container, Node};
+use mp4_compose::{ChildBox, Lossless, StableBox};
 use mp4_extra::ExtraBox;
 use mp4_stream::{
     BoxHeader, BoxType, ByteCursor, Entries, ReadBox, Result as Read, StreamBox, WriteBox,
 };
 use std::alloc::{AllocError, Global};
 use std::fmt::Debug;
+use std::marker::PhantomData;
 use test_extra::{
     LINS, LinesBox, NEST, NUMB, NestedBox, NumbersBox, OPTS, OUTR, OptionsBox, OuterBox, RANG,
     RUNS, RangeBox, RunsBox, STRS, StringsBox, TREP, TrepBox,
@@ -184,6 +185,25 @@ fn show_again<B: ChildBox + Level>(
     }
 }
 
+/// Trees of boxes of `B`, as deep as `BoxTree`.
+type Trees<B> = Node<
+    Node<Node<Node<Node<Node<Node<Node<Node<Lossless<B>, B>, B>, B>, B>, B>, B>, B>, B>,
+    B,
+>;
+
+/// Calls `show_again` for trees of boxes of `B`. `_kind` names their type. The caller names the boxes only once, and so
+/// its proof has their laws once and not at each level.
+fn show_trees_of<B: StableBox + Leaf>(
+    alloc: Global,
+    _kind: PhantomData<Trees<B>>,
+    content: &[u8],
+    at: u64,
+    structure: &mut Vec<u8>,
+    out: &mut Vec<u8>,
+) -> Result<(), AllocError> {
+    show_again::<Trees<B>>(alloc, content, at, structure, out)
+}
+
 /// Reads the boxes of `content` that begin at `at` as trees, and appends a record: what they are written in, or why
 /// they can't be read. Appends their structure to `structure`.
 pub(crate) fn show_trees(
@@ -193,5 +213,5 @@ pub(crate) fn show_trees(
     structure: &mut Vec<u8>,
     out: &mut Vec<u8>,
 ) -> Result<(), AllocError> {
-    show_again::<BoxTree>(alloc, content, at, structure, out)
+    show_trees_of::<AllBoxes>(alloc, PhantomData::<BoxTree>, content, at, structure, out)
 }

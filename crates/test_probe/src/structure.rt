@@ -23,14 +23,22 @@ fn push_container(
     out.extend_from_slice(line.as_bytes())
 }
 
-/// Appends the line of a box that is read as a type: one of `mp4_extra`, one of the codec, or a box of another type.
-fn push_typed(alloc: Global, found: &AllBoxes, out: &mut Vec<u8>) -> Result<(), AllocError> {
-    let kind = match found {
-        Either::First(_) => "extra",
-        Either::Second(KeptBox::Any(_)) => "codec",
-        Either::Second(KeptBox::Other(_)) => "other",
-    };
-    push_leaf(alloc, kind, u32::from(found.box_type()), out)
+/// A box that is read as a type.
+pub(crate) trait Leaf {
+    /// Appends the line of the box.
+    fn push_typed(&self, alloc: Global, out: &mut Vec<u8>) -> Result<(), AllocError>;
+}
+
+/// A box of `mp4_extra`, one of the codec, or a box of another type.
+impl Leaf for AllBoxes {
+    fn push_typed(&self, alloc: Global, out: &mut Vec<u8>) -> Result<(), AllocError> {
+        let kind = match self {
+            Either::First(_) => "extra",
+            Either::Second(KeptBox::Any(_)) => "codec",
+            Either::Second(KeptBox::Other(_)) => "other",
+        };
+        push_leaf(alloc, kind, u32::from(self.box_type()), out)
+    }
 }
 
 /// A level of a tree.
@@ -40,11 +48,11 @@ pub(crate) trait Level {
 }
 
 /// The innermost level, which has no containers.
-impl Level for Lossless<AllBoxes> {
+impl<B: Leaf> Level for Lossless<B> {
     fn push_structure(alloc: Global, boxes: &[Self], out: &mut Vec<u8>) -> Result<(), AllocError> {
         for it in boxes {
             match it {
-                Lossless::Typed(found) => push_typed(alloc, found, out)?,
+                Lossless::Typed(found) => found.push_typed(alloc, out)?,
                 Lossless::Raw { code, .. } => push_leaf(alloc, "raw", *code, out)?,
             }
         }
@@ -52,7 +60,7 @@ impl Level for Lossless<AllBoxes> {
     }
 }
 
-impl<L: Level> Level for Node<L, AllBoxes> {
+impl<L: Level, B: Leaf> Level for Node<L, B> {
     fn push_structure(alloc: Global, boxes: &[Self], out: &mut Vec<u8>) -> Result<(), AllocError> {
         for it in boxes {
             match &**it {
@@ -66,7 +74,7 @@ impl<L: Level> Level for Node<L, AllBoxes> {
                     )?;
                     L::push_structure(alloc, &found.boxes, out)?;
                 }
-                Lossless::Typed(Either::Second(found)) => push_typed(alloc, found, out)?,
+                Lossless::Typed(Either::Second(found)) => found.push_typed(alloc, out)?,
                 Lossless::Raw { code, .. } => push_leaf(alloc, "raw", *code, out)?,
             }
         }
