@@ -1,10 +1,11 @@
 //! Lists with an `ssix` or a `fiel` among other boxes.
 
+use crate::tests::is_writable;
 use crate::tests::ssix::{BYTES, TOO_MANY, changed, index};
 use crate::{FIEL, Fiel, FielBox, SSIX, SegmentBox};
 use mp4_stream::{
     AnyBox, BoxType, ByteCursor, Either, Error, KeptBox, MfhdBox, Mp4Box, OtherBox, Result as Made,
-    StreamBox, TfdtBox, TrunBox, WriteBox, read_boxes_as, write_boxes,
+    StreamBox, TfdtBox, TrunBox, read_boxes_as, write_boxes,
 };
 use std::alloc::Global;
 use std::test::Fail;
@@ -157,11 +158,6 @@ fn a_fiel_is_among_boxes_of_the_codec_and_others(rt: HostRuntime) -> Result<(), 
 fn kept_with_the_declared_code(alloc: Global) -> Made<Either<FielBox, KeptBox>> {
     let kept = OtherBox::copy_of(alloc, FIEL, &[0x81, 0x82, 0x83])?;
     Ok(Either::Second(KeptBox::Other(kept)))
-}
-
-/// Returns whether the box can be written.
-fn is_writable<B: WriteBox + Drop>(made: Made<B>) -> Made<bool> {
-    Ok(made?.is_writable())
 }
 
 #[test]

@@ -1,8 +1,8 @@
 //! The bytes of `pdin` (ISO/IEC 14496-12, 8.1.3).
 
-use crate::tests::{is_in, read};
+use crate::tests::{ends_early, has_fault, is_in, is_read, is_writable};
 use crate::{Pdin, PdinBox, PdinEntry};
-use mp4_stream::{Error, Result as Made, WriteBox};
+use mp4_stream::Result as Made;
 use std::alloc::Global;
 use std::test::Fail;
 
@@ -37,41 +37,24 @@ fn pdin(alloc: Global, version: u8, flags: u32, entries: &[PdinEntry]) -> Made<P
     }))
 }
 
-/// Returns whether the box can be written.
-fn is_writable(made: Made<PdinBox>) -> Made<bool> {
-    Ok(made?.is_writable())
-}
-
-/// Returns whether reading `bytes` with this `size` fails with the text `fault`.
-fn has_fault(alloc: Global, bytes: &[u8], size: u64, fault: &str) -> bool {
-    matches!(read::<PdinBox>(alloc, bytes, size), Err(Error::InvalidData(text)) if text == fault)
-}
-
 #[test]
 fn pdin_is_written_and_read(rt: HostRuntime) -> Result<(), Fail> {
     let alloc = rt.alloc();
     assert!(rt; is_in(alloc, pdin(alloc, 0, 0x81_8283, &ENTRIES), &BYTES)?);
-    let two = pdin(alloc, 0, 0x81_8283, &ENTRIES[..2])?;
-    assert!(rt; read::<PdinBox>(alloc, &BYTES, 28)? == two);
-    let none = pdin(alloc, 0, 0, &[])?;
-    assert!(rt; is_in(alloc, Ok(none), b"\0\0\0\x0cpdin\0\0\0\0")?);
+    let two = pdin(alloc, 0, 0x81_8283, &ENTRIES[..2]);
+    assert!(rt; is_read(alloc, two, &BYTES, 28)?);
+    let none = pdin(alloc, 0, 0, &[]);
+    assert!(rt; is_in(alloc, none, b"\0\0\0\x0cpdin\0\0\0\0")?);
     Ok(())
 }
 
 #[test]
 fn sizes_and_versions_that_do_not_fit(rt: HostRuntime) -> Result<(), Fail> {
     let alloc = rt.alloc();
-    let cut = read::<PdinBox>(alloc, &BYTES[..35], 36);
-    assert!(rt; matches!(cut, Err(Error::IoError)));
-    assert!(rt; has_fault(alloc, &BYTES, 35, "entries do not fill the box"));
-    assert!(rt;
-        has_fault(
-            alloc,
-            b"\0\0\0\x0cpdin\x01\x81\x82\x83",
-            12,
-            "version must be 0"
-        )
-    );
+    assert!(rt; ends_early::<PdinBox>(alloc, &BYTES[..35], 36));
+    assert!(rt; has_fault::<PdinBox>(alloc, &BYTES, 35, "entries do not fill the box"));
+    let first = b"\0\0\0\x0cpdin\x01\x81\x82\x83";
+    assert!(rt; has_fault::<PdinBox>(alloc, first, 12, "version must be 0"));
     assert!(rt; !is_writable(pdin(alloc, 1, 0, &[]))?);
     assert!(rt; is_writable(pdin(alloc, 0, 0xff_ffff, &[]))?);
     assert!(rt; !is_writable(pdin(alloc, 0, 0x100_0000, &[]))?);

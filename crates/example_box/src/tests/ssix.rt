@@ -2,9 +2,9 @@
 
 ghost use Rattle.std.specs.Prelude.{◌<◌};
 
-use crate::tests::{is_in, read};
+use crate::tests::{ends_early, has_fault, is_in, is_read, is_writable};
 use crate::{Ssix, SsixBox, SsixRange, Subsegment};
-use mp4_stream::{Error, Result as Made, WriteBox};
+use mp4_stream::Result as Made;
 use std::alloc::Global;
 use std::test::Fail;
 
@@ -67,12 +67,7 @@ pub(crate) const TOO_MANY: &str = "count indicates more entries than could fit i
 
 /// Returns whether reading `bytes` with this `size` fails with `TOO_MANY`.
 fn has_too_many(alloc: Global, bytes: &[u8], size: u64) -> bool {
-    matches!(read::<SsixBox>(alloc, bytes, size), Err(Error::InvalidData(text)) if text == TOO_MANY)
-}
-
-/// Returns whether reading `bytes` with this `size` fails with end of input.
-fn ends_early(alloc: Global, bytes: &[u8], size: u64) -> bool {
-    matches!(read::<SsixBox>(alloc, bytes, size), Err(Error::IoError))
+    has_fault::<SsixBox>(alloc, bytes, size, TOO_MANY)
 }
 
 #[test]
@@ -88,11 +83,11 @@ fn ssix_is_written_and_read(rt: HostRuntime) -> Result<(), Fail> {
 #[test]
 fn counts_that_are_one_short(rt: HostRuntime) -> Result<(), Fail> {
     let alloc = rt.alloc();
-    let two = ssix(alloc, &RANGES[..2])?;
-    assert!(rt; read::<SsixBox>(alloc, &changed(15, 2), 56)? == two);
+    let two = ssix(alloc, &RANGES[..2]);
+    assert!(rt; is_read(alloc, two, &changed(15, 2), 56)?);
     assert!(rt; has_too_many(alloc, &changed(19, 1), 56));
-    let last = ssix(alloc, &[RANGES[0], RANGES[1], &RANGES[2][..3]])?;
-    assert!(rt; read::<SsixBox>(alloc, &changed(39, 3), 56)? == last);
+    let last = ssix(alloc, &[RANGES[0], RANGES[1], &RANGES[2][..3]]);
+    assert!(rt; is_read(alloc, last, &changed(39, 3), 56)?);
     Ok(())
 }
 
@@ -100,10 +95,10 @@ fn counts_that_are_one_short(rt: HostRuntime) -> Result<(), Fail> {
 fn counts_and_sizes_that_do_not_fit(rt: HostRuntime) -> Result<(), Fail> {
     let alloc = rt.alloc();
     assert!(rt; has_too_many(alloc, &BYTES, 55));
-    assert!(rt; ends_early(alloc, &BYTES[..55], 56));
-    assert!(rt; ends_early(alloc, &changed(15, 4), 56));
+    assert!(rt; ends_early::<SsixBox>(alloc, &BYTES[..55], 56));
+    assert!(rt; ends_early::<SsixBox>(alloc, &changed(15, 4), 56));
     assert!(rt; has_too_many(alloc, &changed(39, 5), 56));
-    assert!(rt; ssix(alloc, &[&[(0xff, 0xff_ffff)]])?.is_writable());
-    assert!(rt; !ssix(alloc, &[&[(0, 0x100_0000)]])?.is_writable());
+    assert!(rt; is_writable(ssix(alloc, &[&[(0xff, 0xff_ffff)]]))?);
+    assert!(rt; !is_writable(ssix(alloc, &[&[(0, 0x100_0000)]]))?);
     Ok(())
 }
