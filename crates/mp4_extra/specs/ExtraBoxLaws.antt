@@ -6,16 +6,16 @@ use Rattle.mp4_frame.specs.Members.{Held, NamedAsRead, ValueOf, holds, held_insi
 use Rattle.mp4_frame.specs.MemberLaws.{IsMember, member}
 use Rattle.mp4_frame.specs.BoxType.{code_of, code_of-name_of}
 use Rattle.mp4_declared.specs.NameLaws.{plain_name}
-use Rattle.mp4_extra.specs.ExtraType.{code_of_type, type_of_code}
 use Rattle.mp4_extra.specs.ExtraTypeLaws.{type_found, code_found}
-use Rattle.mp4_extra.specs.ExtraBox.{FieldsOf, wrap, opened, Declarations, format_extra, known_as, kinds, inside}
-use Rattle.mp4_extra.specs.declared.extra_type.ExtraType.{ExtraType}
-use Rattle.mp4_extra.specs.declared.extra_type.ExtraType.TheVariants as types
+use Rattle.mp4_extra.specs.ExtraBox.{FieldsOf, code_of_type, wrap, opened, type_of_code, Declarations, format_extra}
+use Rattle.mp4_extra.specs.ExtraBox.{known_as, kinds, inside}
+use Rattle.mp4_extra.specs.declared.extra_box.ExtraType.{ExtraType}
+use Rattle.mp4_extra.specs.declared.extra_box.ExtraType.TheVariants as types
 use Rattle.mp4_extra.specs.declared.extra_box.ExtraBox.{ExtraBox}
 use Rattle.mp4_extra.specs.declared.extra_box.ExtraBox.TheVariants as boxes
 
 reopened : (v : ExtraBox) → wrap (opened v).0 (opened v).1 ≡ v
-reopened (boxes.Av1cBox fields) = refl
+reopened (boxes.AlacBox fields) = refl
 reopened _ = refl
 
 module _ (declared : Declarations) where
@@ -23,13 +23,13 @@ module _ (declared : Declarations) where
   held = held_inside (inside declared)
 
   is_held : (t : ExtraType) (x : FieldsOf t) → held (wrap t x) ≡ holds (format_extra declared t) (wrap t) x
-  is_held types.Av1cBox x = refl
+  is_held types.AlacBox x = refl
   is_held _ x = refl
 
   of_type : (t : ExtraType) (x : FieldsOf t) → IsMember (kinds declared) held (wrap t x)
   of_type t x =
       member (kinds declared) held (wrap t)
-      (laws_declared (declared t).shape (declared t).laws (declared t).layout (declared t).valid) (is_held t)
+      (laws_declared (declared t).is.shape (declared t).is.laws (declared t).is.layout (declared t).valid) (is_held t)
       (λ _. ap (λ (code : ℕ). known_as declared (type_of_code code)) (code_of-name_of (code_of_type t))
       ∙ ap (known_as declared) (type_found t))
       (λ _. plain_name (code_of_type t)) x

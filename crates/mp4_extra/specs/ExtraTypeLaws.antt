@@ -2,13 +2,14 @@
 use Rattle.std.proofs.Common.{◌≡◌, ℕ, ◌==◌, if◌then◌else◌, Bool, true, false, List, [], ◌∷◌, Option, None, Some}
 use Rattle.std.proofs.Common.{refl, ap, ◌∙◌}
 use Rattle.std.proofs.lemmas.Bool.{eqb-true}
-use Rattle.mp4_extra.specs.ExtraType.{code_of_type, all_types, type_among, type_of_code}
-use Rattle.mp4_extra.specs.declared.extra_type.ExtraType.{ExtraType}
-use Rattle.mp4_extra.specs.declared.extra_type.ExtraType.TheVariants as types
+use Rattle.mp4_extra.specs.ExtraBox.{code_of_type, type_among, type_of_code}
+use Rattle.mp4_extra.specs.declared.extra_box.TheConstants.{TYPES}
+use Rattle.mp4_extra.specs.declared.extra_box.ExtraType.{ExtraType}
+use Rattle.mp4_extra.specs.declared.extra_box.ExtraType.TheVariants as types
 
 pub type_found : (t : ExtraType) → type_of_code (code_of_type t) ≡ Some t
 unfolding type_of_code
-type_found types.Av1cBox = refl
+type_found types.AlacBox = refl
 type_found _ = refl
 
 chosen : (b : Bool) (code : ℕ) (t u : ExtraType) (rest : Option ExtraType) → (b ≡ true → code ≡ code_of_type t)
@@ -25,4 +26,4 @@ code_among (t ∷ ts) code u e =
 -- the code by which a type is found is its own
 pub code_found : (code : ℕ) (t : ExtraType) → type_of_code code ≡ Some t → code ≡ code_of_type t
 unfolding type_of_code
-code_found code t e = code_among all_types code t e
+code_found code t e = code_among TYPES.now code t e

@@ -1,4 +1,3 @@
-pub mod ExtraType
-pub mod ExtraTypeLaws
 pub mod ExtraBox
+pub mod ExtraTypeLaws
 pub mod ExtraBoxLaws

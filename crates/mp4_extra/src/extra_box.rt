@@ -1,43 +1,98 @@
 //! The box types of this crate as one enum.
 
-ghost use Rattle.std.specs.Prelude.{◌≡◌, ◌+◌, ◌-◌, ◌≤◌, OnOk, OnErr, max, length};
+ghost use Rattle.std.specs.Prelude.{◌≡◌, ℕ, ◌+◌, ◌-◌, ◌≤◌, OnOk, OnErr, max, length};
 ghost use Rattle.std.proofs.Common.{refl};
-ghost use Rattle.mp4_frame.specs.Members.{some_box};
 ghost use Rattle.mp4_frame.specs.Reading.{Answers};
-ghost use Rattle.mp4_frame.specs.Members.{reading_known, Is};
+ghost use Rattle.mp4_frame.specs.Members.{reading_known, some_box, Is};
 ghost use Rattle.mp4_declared.specs.OwnBox.{format_declared};
-ghost use Rattle.mp4_extra.specs.ExtraBox.{Declarations, shaped, kind_of, kinds, inside};
+ghost use Rattle.mp4_extra.specs.ExtraBox.{Declaration, Declarations, declared_as, inside, kind_of, kinds, shown};
+ghost use Rattle.mp4_extra.specs.ExtraBox.{type_of_code, valid_as, whole};
 ghost use Rattle.mp4_extra.specs.ExtraBoxLaws.{by_code, members, named};
-ghost use Rattle.mp4_extra.specs.declared.extra_type.ExtraType.TheVariants as types;
+ghost use Rattle.mp4_extra.specs.declared.extra_box.ExtraType.TheVariants as types;
 ghost use Rattle.mp4_extra.specs.declared.extra_box.ExtraBox.TheVariants as boxes;
 
-use crate::extra_type::ExtraType;
-use crate::{
-    Av1c, Av1cBox, Btrt, BtrtBox, Clap, ClapBox, Clli, ClliBox, Colr, ColrBox, Cslg, CslgBox, Dac3,
-    Dac3Box, Data, DataBox, Dec3, Dec3Box, Dfla, DflaBox, Dops, DopsBox, Elng, ElngBox, Frma,
-    FrmaBox, Hvcc, HvccBox, Keys, KeysBox, Kind, KindBox, Mdcv, MdcvBox, Mfro, MfroBox, Nmhd,
-    NmhdBox, Pasp, PaspBox, Prft, PrftBox, Pssh, PsshBox, Saio, SaioBox, Saiz, SaizBox, Sbgp,
-    SbgpBox, Schm, SchmBox, Sdtp, SdtpBox, Senc, SencBox, Sgpd, SgpdBox, Sidx, SidxBox, Stpp,
-    StppBox, Styp, StypBox, Stz2, Stz2Box, Subs, SubsBox, Tenc, TencBox, Tfra, TfraBox, Tref,
-    TrefBox, Wvtt, WvttBox,
-};
+use super::*;
 use mp4_compose::CodedEnum;
-use mp4_declared::{Declared, DeclaredBox, Shape};
+use mp4_declared::{Declared, DeclaredBox};
 use mp4_frame::{
-    BoxEnum, BoxType, BoxVisitor, ByteCursor, Holds, Result, TryClone, clone_as, read_as,
+    BoxEnum, BoxType, BoxVisitor, ByteCursor, Holds, Result, TryClone, clone_as, codes, read_as,
 };
+use mp4_shown::{FieldSink, HasFields, View};
 use std::alloc::Global;
 use std::fmt;
 
-/// Calls a macro with the list of all box types in brackets, followed by the other arguments.
+/// Calls a macro with the list of all box types in brackets, followed by the other arguments. Each has its variant and
+/// its code.
 macro_rules! of_boxes {
     ($go:ident, $($rest:tt)*) => {
         $go! {
             [
-                Av1cBox BtrtBox ClapBox ClliBox ColrBox CslgBox Dac3Box DataBox Dec3Box DflaBox
-                DopsBox ElngBox FrmaBox HvccBox KeysBox KindBox MdcvBox MfroBox NmhdBox PaspBox
-                PrftBox PsshBox SaioBox SaizBox SbgpBox SchmBox SdtpBox SencBox SgpdBox SidxBox
-                StppBox StypBox Stz2Box SubsBox TencBox TfraBox TrefBox WvttBox
+                AlacBox ALAC,
+                AuxcBox AUXC,
+                Av1cBox AV1C,
+                BtrtBox BTRT,
+                ChanBox CHAN,
+                ChnlBox CHNL,
+                ClapBox CLAP,
+                ClliBox CLLI,
+                ColrBox COLR,
+                CslgBox CSLG,
+                Dac3Box DAC3,
+                DataBox DATA,
+                Dec3Box DEC3,
+                DflaBox DFLA,
+                DopsBox DOPS,
+                DvccBox DVCC,
+                DvvcBox DVVC,
+                ElngBox ELNG,
+                EndaBox ENDA,
+                FielBox FIEL,
+                FrmaBox FRMA,
+                GminBox GMIN,
+                HmhdBox HMHD,
+                HvccBox HVCC,
+                IlocBox ILOC,
+                ImirBox IMIR,
+                InfeBox INFE,
+                IodsBox IODS,
+                IpmaBox IPMA,
+                IrotBox IROT,
+                IspeBox ISPE,
+                KeysBox KEYS,
+                KindBox KIND,
+                LevaBox LEVA,
+                MdcvBox MDCV,
+                MeanBox MEAN,
+                MfroBox MFRO,
+                NameBox TAG_NAME,
+                NmhdBox NMHD,
+                PaspBox PASP,
+                PitmBox PITM,
+                PixiBox PIXI,
+                PrftBox PRFT,
+                PsshBox PSSH,
+                SaioBox SAIO,
+                SaizBox SAIZ,
+                SbgpBox SBGP,
+                SchmBox SCHM,
+                SdtpBox SDTP,
+                SencBox SENC,
+                SgpdBox SGPD,
+                SidxBox SIDX,
+                SratBox SRAT,
+                SsixBox SSIX,
+                SthdBox STHD,
+                StppBox STPP,
+                StypBox STYP,
+                Stz2Box STZ2,
+                SubsBox SUBS,
+                TcmiBox TCMI,
+                TencBox TENC,
+                TextBox TEXT,
+                TfraBox TFRA,
+                TrefBox TREF,
+                VvccBox VVCC,
+                WvttBox WVTT
             ]
             $($rest)*
         }
@@ -46,16 +101,33 @@ macro_rules! of_boxes {
 
 /// A match on an `ExtraBox` with the same arm for each variant: it binds the box inside and evaluates the expression.
 macro_rules! each {
-    ([$($held:ident)*] $extra:expr, $value:ident => $answer:expr) => {
+    ([$($held:ident $code:ident),*] $extra:expr, $value:ident => $answer:expr) => {
         match $extra {
             $(ExtraBox::$held($value) => $answer,)*
         }
     };
 }
 
+/// A list of all types.
+macro_rules! types {
+    ([$($held:ident $code:ident),*]) => {
+        &[$(ExtraType::$held),*]
+    };
+}
+
+/// A match on a code with an arm for each type, which is the type.
+macro_rules! by_code {
+    ([$($held:ident $code:ident),*] $found:expr) => {
+        match $found {
+            $(codes::$code => Some(ExtraType::$held),)*
+            _ => None,
+        }
+    };
+}
+
 /// A match on an `ExtraType` with an arm for each type, which reads a box of this type.
 macro_rules! by_type {
-    ([$($held:ident)*] $of:expr, $values:tt) => {
+    ([$($held:ident $code:ident),*] $of:expr, $values:tt) => {
         match $of {
             $(ExtraType::$held => read_as::<$held, ExtraBox> $values,)*
         }
@@ -64,7 +136,7 @@ macro_rules! by_type {
 
 /// Prints an `ExtraBox` as its variant, with the box inside.
 macro_rules! print_extra {
-    ([$($held:ident)*] $extra:expr, $f:expr) => {
+    ([$($held:ident $code:ident),*] $extra:expr, $f:expr) => {
         match $extra {
             $(ExtraBox::$held(value) => print_variant($f, stringify!($held), value),)*
         }
@@ -74,8 +146,12 @@ macro_rules! print_extra {
 /// A box of any type of this crate.
 #[derive(Drop, PartialEq, Eq)]
 pub enum ExtraBox {
+    AlacBox(AlacBox),
+    AuxcBox(AuxcBox),
     Av1cBox(Av1cBox),
     BtrtBox(BtrtBox),
+    ChanBox(ChanBox),
+    ChnlBox(ChnlBox),
     ClapBox(ClapBox),
     ClliBox(ClliBox),
     ColrBox(ColrBox),
@@ -85,15 +161,33 @@ pub enum ExtraBox {
     Dec3Box(Dec3Box),
     DflaBox(DflaBox),
     DopsBox(DopsBox),
+    DvccBox(DvccBox),
+    DvvcBox(DvvcBox),
     ElngBox(ElngBox),
+    EndaBox(EndaBox),
+    FielBox(FielBox),
     FrmaBox(FrmaBox),
+    GminBox(GminBox),
+    HmhdBox(HmhdBox),
     HvccBox(HvccBox),
+    IlocBox(IlocBox),
+    ImirBox(ImirBox),
+    InfeBox(InfeBox),
+    IodsBox(IodsBox),
+    IpmaBox(IpmaBox),
+    IrotBox(IrotBox),
+    IspeBox(IspeBox),
     KeysBox(KeysBox),
     KindBox(KindBox),
+    LevaBox(LevaBox),
     MdcvBox(MdcvBox),
+    MeanBox(MeanBox),
     MfroBox(MfroBox),
+    NameBox(NameBox),
     NmhdBox(NmhdBox),
     PaspBox(PaspBox),
+    PitmBox(PitmBox),
+    PixiBox(PixiBox),
     PrftBox(PrftBox),
     PsshBox(PsshBox),
     SaioBox(SaioBox),
@@ -104,14 +198,102 @@ pub enum ExtraBox {
     SencBox(SencBox),
     SgpdBox(SgpdBox),
     SidxBox(SidxBox),
+    SratBox(SratBox),
+    SsixBox(SsixBox),
+    SthdBox(SthdBox),
     StppBox(StppBox),
     StypBox(StypBox),
     Stz2Box(Stz2Box),
     SubsBox(SubsBox),
+    TcmiBox(TcmiBox),
     TencBox(TencBox),
+    TextBox(TextBox),
     TfraBox(TfraBox),
     TrefBox(TrefBox),
+    VvccBox(VvccBox),
     WvttBox(WvttBox),
+}
+
+/// A type of boxes that an `ExtraBox` holds.
+#[derive(Clone, Copy)]
+pub enum ExtraType {
+    AlacBox,
+    AuxcBox,
+    Av1cBox,
+    BtrtBox,
+    ChanBox,
+    ChnlBox,
+    ClapBox,
+    ClliBox,
+    ColrBox,
+    CslgBox,
+    Dac3Box,
+    DataBox,
+    Dec3Box,
+    DflaBox,
+    DopsBox,
+    DvccBox,
+    DvvcBox,
+    ElngBox,
+    EndaBox,
+    FielBox,
+    FrmaBox,
+    GminBox,
+    HmhdBox,
+    HvccBox,
+    IlocBox,
+    ImirBox,
+    InfeBox,
+    IodsBox,
+    IpmaBox,
+    IrotBox,
+    IspeBox,
+    KeysBox,
+    KindBox,
+    LevaBox,
+    MdcvBox,
+    MeanBox,
+    MfroBox,
+    NameBox,
+    NmhdBox,
+    PaspBox,
+    PitmBox,
+    PixiBox,
+    PrftBox,
+    PsshBox,
+    SaioBox,
+    SaizBox,
+    SbgpBox,
+    SchmBox,
+    SdtpBox,
+    SencBox,
+    SgpdBox,
+    SidxBox,
+    SratBox,
+    SsixBox,
+    SthdBox,
+    StppBox,
+    StypBox,
+    Stz2Box,
+    SubsBox,
+    TcmiBox,
+    TencBox,
+    TextBox,
+    TfraBox,
+    TrefBox,
+    VvccBox,
+    WvttBox,
+}
+
+/// For the prover: all types.
+const TYPES: &[ExtraType] = of_boxes!(types,);
+
+/// Returns the type of the boxes with the code `code`, if there is one.
+#[tactic(auto, unfolding(crate::specs::ExtraBox::type_of_code))]
+fn type_of(code: u32) -> Option<ExtraType>
+    ensures { result ≡ type_of_code code }
+{
+    of_boxes!(by_code, code)
 }
 
 /// Prints a variant with this `name` and the box `value` inside.
@@ -135,6 +317,19 @@ impl TryClone for ExtraBox {
     }
 }
 
+/// For the prover: the declaration of a box and of its fields.
+trait Described {
+    ghost CODE: { ℕ };
+
+    ghost declaration: { Declaration CODE Self };
+}
+
+impl<T: DeclaredBox + HasFields> Described for T {
+    ghost CODE = { T.CODE };
+
+    ghost declaration = { declared_as T.Shape.shape_laws T.layout T.shown T.whole };
+}
+
 /// For the prover: the declarations of all types.
 trait Declares {
     ghost declared: { Declarations };
@@ -142,48 +337,76 @@ trait Declares {
 
 impl Declares for ExtraBox {
     ghost declared = { elim [
-      | types.Av1cBox ↦ shaped ⟦<<Av1c as DeclaredBox>::Shape as Shape>⟧.shape_laws ⟦<Av1c as DeclaredBox>⟧.layout refl
-      | types.BtrtBox ↦ shaped ⟦<<Btrt as DeclaredBox>::Shape as Shape>⟧.shape_laws ⟦<Btrt as DeclaredBox>⟧.layout refl
-      | types.ClapBox ↦ shaped ⟦<<Clap as DeclaredBox>::Shape as Shape>⟧.shape_laws ⟦<Clap as DeclaredBox>⟧.layout refl
-      | types.ClliBox ↦ shaped ⟦<<Clli as DeclaredBox>::Shape as Shape>⟧.shape_laws ⟦<Clli as DeclaredBox>⟧.layout refl
-      | types.ColrBox ↦ shaped ⟦<<Colr as DeclaredBox>::Shape as Shape>⟧.shape_laws ⟦<Colr as DeclaredBox>⟧.layout refl
-      | types.CslgBox ↦ shaped ⟦<<Cslg as DeclaredBox>::Shape as Shape>⟧.shape_laws ⟦<Cslg as DeclaredBox>⟧.layout refl
-      | types.Dac3Box ↦ shaped ⟦<<Dac3 as DeclaredBox>::Shape as Shape>⟧.shape_laws ⟦<Dac3 as DeclaredBox>⟧.layout refl
-      | types.DataBox ↦ shaped ⟦<<Data as DeclaredBox>::Shape as Shape>⟧.shape_laws ⟦<Data as DeclaredBox>⟧.layout refl
-      | types.Dec3Box ↦ shaped ⟦<<Dec3 as DeclaredBox>::Shape as Shape>⟧.shape_laws ⟦<Dec3 as DeclaredBox>⟧.layout refl
-      | types.DflaBox ↦ shaped ⟦<<Dfla as DeclaredBox>::Shape as Shape>⟧.shape_laws ⟦<Dfla as DeclaredBox>⟧.layout refl
-      | types.DopsBox ↦ shaped ⟦<<Dops as DeclaredBox>::Shape as Shape>⟧.shape_laws ⟦<Dops as DeclaredBox>⟧.layout refl
-      | types.ElngBox ↦ shaped ⟦<<Elng as DeclaredBox>::Shape as Shape>⟧.shape_laws ⟦<Elng as DeclaredBox>⟧.layout refl
-      | types.FrmaBox ↦ shaped ⟦<<Frma as DeclaredBox>::Shape as Shape>⟧.shape_laws ⟦<Frma as DeclaredBox>⟧.layout refl
-      | types.HvccBox ↦ shaped ⟦<<Hvcc as DeclaredBox>::Shape as Shape>⟧.shape_laws ⟦<Hvcc as DeclaredBox>⟧.layout refl
-      | types.KeysBox ↦ shaped ⟦<<Keys as DeclaredBox>::Shape as Shape>⟧.shape_laws ⟦<Keys as DeclaredBox>⟧.layout refl
-      | types.KindBox ↦ shaped ⟦<<Kind as DeclaredBox>::Shape as Shape>⟧.shape_laws ⟦<Kind as DeclaredBox>⟧.layout refl
-      | types.MdcvBox ↦ shaped ⟦<<Mdcv as DeclaredBox>::Shape as Shape>⟧.shape_laws ⟦<Mdcv as DeclaredBox>⟧.layout refl
-      | types.MfroBox ↦ shaped ⟦<<Mfro as DeclaredBox>::Shape as Shape>⟧.shape_laws ⟦<Mfro as DeclaredBox>⟧.layout refl
-      | types.NmhdBox ↦ shaped ⟦<<Nmhd as DeclaredBox>::Shape as Shape>⟧.shape_laws ⟦<Nmhd as DeclaredBox>⟧.layout refl
-      | types.PaspBox ↦ shaped ⟦<<Pasp as DeclaredBox>::Shape as Shape>⟧.shape_laws ⟦<Pasp as DeclaredBox>⟧.layout refl
-      | types.PrftBox ↦ shaped ⟦<<Prft as DeclaredBox>::Shape as Shape>⟧.shape_laws ⟦<Prft as DeclaredBox>⟧.layout refl
-      | types.PsshBox ↦ shaped ⟦<<Pssh as DeclaredBox>::Shape as Shape>⟧.shape_laws ⟦<Pssh as DeclaredBox>⟧.layout refl
-      | types.SaioBox ↦ shaped ⟦<<Saio as DeclaredBox>::Shape as Shape>⟧.shape_laws ⟦<Saio as DeclaredBox>⟧.layout refl
-      | types.SaizBox ↦ shaped ⟦<<Saiz as DeclaredBox>::Shape as Shape>⟧.shape_laws ⟦<Saiz as DeclaredBox>⟧.layout refl
-      | types.SbgpBox ↦ shaped ⟦<<Sbgp as DeclaredBox>::Shape as Shape>⟧.shape_laws ⟦<Sbgp as DeclaredBox>⟧.layout refl
-      | types.SchmBox ↦ shaped ⟦<<Schm as DeclaredBox>::Shape as Shape>⟧.shape_laws ⟦<Schm as DeclaredBox>⟧.layout refl
-      | types.SdtpBox ↦ shaped ⟦<<Sdtp as DeclaredBox>::Shape as Shape>⟧.shape_laws ⟦<Sdtp as DeclaredBox>⟧.layout refl
-      | types.SencBox ↦ shaped ⟦<<Senc as DeclaredBox>::Shape as Shape>⟧.shape_laws ⟦<Senc as DeclaredBox>⟧.layout refl
-      | types.SgpdBox ↦ shaped ⟦<<Sgpd as DeclaredBox>::Shape as Shape>⟧.shape_laws ⟦<Sgpd as DeclaredBox>⟧.layout refl
-      | types.SidxBox ↦ shaped ⟦<<Sidx as DeclaredBox>::Shape as Shape>⟧.shape_laws ⟦<Sidx as DeclaredBox>⟧.layout refl
-      | types.StppBox ↦ shaped ⟦<<Stpp as DeclaredBox>::Shape as Shape>⟧.shape_laws ⟦<Stpp as DeclaredBox>⟧.layout refl
-      | types.StypBox ↦ shaped ⟦<<Styp as DeclaredBox>::Shape as Shape>⟧.shape_laws ⟦<Styp as DeclaredBox>⟧.layout refl
-      | types.Stz2Box ↦ shaped ⟦<<Stz2 as DeclaredBox>::Shape as Shape>⟧.shape_laws ⟦<Stz2 as DeclaredBox>⟧.layout refl
-      | types.SubsBox ↦ shaped ⟦<<Subs as DeclaredBox>::Shape as Shape>⟧.shape_laws ⟦<Subs as DeclaredBox>⟧.layout refl
-      | types.TencBox ↦ shaped ⟦<<Tenc as DeclaredBox>::Shape as Shape>⟧.shape_laws ⟦<Tenc as DeclaredBox>⟧.layout refl
-      | types.TfraBox ↦ shaped ⟦<<Tfra as DeclaredBox>::Shape as Shape>⟧.shape_laws ⟦<Tfra as DeclaredBox>⟧.layout refl
-      | types.TrefBox ↦ shaped ⟦<<Tref as DeclaredBox>::Shape as Shape>⟧.shape_laws ⟦<Tref as DeclaredBox>⟧.layout refl
-      | types.WvttBox ↦ shaped ⟦<<Wvtt as DeclaredBox>::Shape as Shape>⟧.shape_laws ⟦<Wvtt as DeclaredBox>⟧.layout refl
+      | types.AlacBox ↦ valid_as ⟦<Alac as Described>⟧.declaration refl
+      | types.AuxcBox ↦ valid_as ⟦<Auxc as Described>⟧.declaration refl
+      | types.Av1cBox ↦ valid_as ⟦<Av1c as Described>⟧.declaration refl
+      | types.BtrtBox ↦ valid_as ⟦<Btrt as Described>⟧.declaration refl
+      | types.ChanBox ↦ valid_as ⟦<Chan as Described>⟧.declaration refl
+      | types.ChnlBox ↦ valid_as ⟦<Chnl as Described>⟧.declaration refl
+      | types.ClapBox ↦ valid_as ⟦<Clap as Described>⟧.declaration refl
+      | types.ClliBox ↦ valid_as ⟦<Clli as Described>⟧.declaration refl
+      | types.ColrBox ↦ valid_as ⟦<Colr as Described>⟧.declaration refl
+      | types.CslgBox ↦ valid_as ⟦<Cslg as Described>⟧.declaration refl
+      | types.Dac3Box ↦ valid_as ⟦<Dac3 as Described>⟧.declaration refl
+      | types.DataBox ↦ valid_as ⟦<Data as Described>⟧.declaration refl
+      | types.Dec3Box ↦ valid_as ⟦<Dec3 as Described>⟧.declaration refl
+      | types.DflaBox ↦ valid_as ⟦<Dfla as Described>⟧.declaration refl
+      | types.DopsBox ↦ valid_as ⟦<Dops as Described>⟧.declaration refl
+      | types.DvccBox ↦ valid_as ⟦<Dvcc as Described>⟧.declaration refl
+      | types.DvvcBox ↦ valid_as ⟦<Dvvc as Described>⟧.declaration refl
+      | types.ElngBox ↦ valid_as ⟦<Elng as Described>⟧.declaration refl
+      | types.EndaBox ↦ valid_as ⟦<Enda as Described>⟧.declaration refl
+      | types.FielBox ↦ valid_as ⟦<Fiel as Described>⟧.declaration refl
+      | types.FrmaBox ↦ valid_as ⟦<Frma as Described>⟧.declaration refl
+      | types.GminBox ↦ valid_as ⟦<Gmin as Described>⟧.declaration refl
+      | types.HmhdBox ↦ valid_as ⟦<Hmhd as Described>⟧.declaration refl
+      | types.HvccBox ↦ valid_as ⟦<Hvcc as Described>⟧.declaration refl
+      | types.IlocBox ↦ valid_as ⟦<Iloc as Described>⟧.declaration refl
+      | types.ImirBox ↦ valid_as ⟦<Imir as Described>⟧.declaration refl
+      | types.InfeBox ↦ valid_as ⟦<Infe as Described>⟧.declaration refl
+      | types.IodsBox ↦ valid_as ⟦<Iods as Described>⟧.declaration refl
+      | types.IpmaBox ↦ valid_as ⟦<Ipma as Described>⟧.declaration refl
+      | types.IrotBox ↦ valid_as ⟦<Irot as Described>⟧.declaration refl
+      | types.IspeBox ↦ valid_as ⟦<Ispe as Described>⟧.declaration refl
+      | types.KeysBox ↦ valid_as ⟦<Keys as Described>⟧.declaration refl
+      | types.KindBox ↦ valid_as ⟦<Kind as Described>⟧.declaration refl
+      | types.LevaBox ↦ valid_as ⟦<Leva as Described>⟧.declaration refl
+      | types.MdcvBox ↦ valid_as ⟦<Mdcv as Described>⟧.declaration refl
+      | types.MeanBox ↦ valid_as ⟦<Mean as Described>⟧.declaration refl
+      | types.MfroBox ↦ valid_as ⟦<Mfro as Described>⟧.declaration refl
+      | types.NameBox ↦ valid_as ⟦<Name as Described>⟧.declaration refl
+      | types.NmhdBox ↦ valid_as ⟦<Nmhd as Described>⟧.declaration refl
+      | types.PaspBox ↦ valid_as ⟦<Pasp as Described>⟧.declaration refl
+      | types.PitmBox ↦ valid_as ⟦<Pitm as Described>⟧.declaration refl
+      | types.PixiBox ↦ valid_as ⟦<Pixi as Described>⟧.declaration refl
+      | types.PrftBox ↦ valid_as ⟦<Prft as Described>⟧.declaration refl
+      | types.PsshBox ↦ valid_as ⟦<Pssh as Described>⟧.declaration refl
+      | types.SaioBox ↦ valid_as ⟦<Saio as Described>⟧.declaration refl
+      | types.SaizBox ↦ valid_as ⟦<Saiz as Described>⟧.declaration refl
+      | types.SbgpBox ↦ valid_as ⟦<Sbgp as Described>⟧.declaration refl
+      | types.SchmBox ↦ valid_as ⟦<Schm as Described>⟧.declaration refl
+      | types.SdtpBox ↦ valid_as ⟦<Sdtp as Described>⟧.declaration refl
+      | types.SencBox ↦ valid_as ⟦<Senc as Described>⟧.declaration refl
+      | types.SgpdBox ↦ valid_as ⟦<Sgpd as Described>⟧.declaration refl
+      | types.SidxBox ↦ valid_as ⟦<Sidx as Described>⟧.declaration refl
+      | types.SratBox ↦ valid_as ⟦<Srat as Described>⟧.declaration refl
+      | types.SsixBox ↦ valid_as ⟦<Ssix as Described>⟧.declaration refl
+      | types.SthdBox ↦ valid_as ⟦<Sthd as Described>⟧.declaration refl
+      | types.StppBox ↦ valid_as ⟦<Stpp as Described>⟧.declaration refl
+      | types.StypBox ↦ valid_as ⟦<Styp as Described>⟧.declaration refl
+      | types.Stz2Box ↦ valid_as ⟦<Stz2 as Described>⟧.declaration refl
+      | types.SubsBox ↦ valid_as ⟦<Subs as Described>⟧.declaration refl
+      | types.TcmiBox ↦ valid_as ⟦<Tcmi as Described>⟧.declaration refl
+      | types.TencBox ↦ valid_as ⟦<Tenc as Described>⟧.declaration refl
+      | types.TextBox ↦ valid_as ⟦<Text as Described>⟧.declaration refl
+      | types.TfraBox ↦ valid_as ⟦<Tfra as Described>⟧.declaration refl
+      | types.TrefBox ↦ valid_as ⟦<Tref as Described>⟧.declaration refl
+      | types.VvccBox ↦ valid_as ⟦<Vvcc as Described>⟧.declaration refl
+      | types.WvttBox ↦ valid_as ⟦<Wvtt as Described>⟧.declaration refl
     ] };
 }
 
-/// Reads a box of type `of`, after its header, like `BoxEnum::read`. The header has this `size`.
+/// Reads a box of type `of` after its header, like `BoxEnum::read`. The header has this `size`.
 fn read_of(of: ExtraType, alloc: Global, reader: &mut ByteCursor, size: u64) -> Result<ExtraBox>
     requires after_header { 8 ≤ reader.old.position }
     ensures answer { Answers result (reading_known (Is (kind_of ⟦<ExtraBox as Declares>⟧.declared of))
@@ -213,11 +436,11 @@ impl BoxEnum for ExtraBox {
     ghost members = { members ⟦<ExtraBox as Declares>⟧.declared };
 
     fn holds(name: BoxType) -> bool {
-        ExtraType::of_code(u32::from(name)).is_some()
+        type_of(u32::from(name)).is_some()
     }
 
     fn read(alloc: Global, name: BoxType, reader: &mut ByteCursor, size: u64) -> Result<Self> {
-        match ExtraType::of_code(u32::from(name)) {
+        match type_of(u32::from(name)) {
             Some(of) => read_of(of, alloc, reader, size),
             None => unreachable!(),
         }
@@ -235,6 +458,33 @@ impl CodedEnum for ExtraBox {
     ghost coded = { by_code ⟦<ExtraBox as Declares>⟧.declared };
 }
 
+/// Shows the fields of the box inside.
+impl HasFields for ExtraBox {
+    ghost shown = { shown ⟦<ExtraBox as Declares>⟧.declared };
+
+    ghost whole = { whole ⟦<ExtraBox as Declares>⟧.declared };
+
+    fn show<K: FieldSink>(&self, view: View, sink: &mut K) -> mp4_shown::Result<()> {
+        of_boxes!(each, self, b => b.show(view, sink))
+    }
+}
+
+impl Holds<AlacBox> for ExtraBox {
+    ghost wrapped = { boxes.AlacBox };
+
+    fn wrap(value: AlacBox) -> ExtraBox {
+        ExtraBox::AlacBox(value)
+    }
+}
+
+impl Holds<AuxcBox> for ExtraBox {
+    ghost wrapped = { boxes.AuxcBox };
+
+    fn wrap(value: AuxcBox) -> ExtraBox {
+        ExtraBox::AuxcBox(value)
+    }
+}
+
 impl Holds<Av1cBox> for ExtraBox {
     ghost wrapped = { boxes.Av1cBox };
 
@@ -248,6 +498,22 @@ impl Holds<BtrtBox> for ExtraBox {
 
     fn wrap(value: BtrtBox) -> ExtraBox {
         ExtraBox::BtrtBox(value)
+    }
+}
+
+impl Holds<ChanBox> for ExtraBox {
+    ghost wrapped = { boxes.ChanBox };
+
+    fn wrap(value: ChanBox) -> ExtraBox {
+        ExtraBox::ChanBox(value)
+    }
+}
+
+impl Holds<ChnlBox> for ExtraBox {
+    ghost wrapped = { boxes.ChnlBox };
+
+    fn wrap(value: ChnlBox) -> ExtraBox {
+        ExtraBox::ChnlBox(value)
     }
 }
 
@@ -323,11 +589,43 @@ impl Holds<DopsBox> for ExtraBox {
     }
 }
 
+impl Holds<DvccBox> for ExtraBox {
+    ghost wrapped = { boxes.DvccBox };
+
+    fn wrap(value: DvccBox) -> ExtraBox {
+        ExtraBox::DvccBox(value)
+    }
+}
+
+impl Holds<DvvcBox> for ExtraBox {
+    ghost wrapped = { boxes.DvvcBox };
+
+    fn wrap(value: DvvcBox) -> ExtraBox {
+        ExtraBox::DvvcBox(value)
+    }
+}
+
 impl Holds<ElngBox> for ExtraBox {
     ghost wrapped = { boxes.ElngBox };
 
     fn wrap(value: ElngBox) -> ExtraBox {
         ExtraBox::ElngBox(value)
+    }
+}
+
+impl Holds<EndaBox> for ExtraBox {
+    ghost wrapped = { boxes.EndaBox };
+
+    fn wrap(value: EndaBox) -> ExtraBox {
+        ExtraBox::EndaBox(value)
+    }
+}
+
+impl Holds<FielBox> for ExtraBox {
+    ghost wrapped = { boxes.FielBox };
+
+    fn wrap(value: FielBox) -> ExtraBox {
+        ExtraBox::FielBox(value)
     }
 }
 
@@ -339,11 +637,83 @@ impl Holds<FrmaBox> for ExtraBox {
     }
 }
 
+impl Holds<GminBox> for ExtraBox {
+    ghost wrapped = { boxes.GminBox };
+
+    fn wrap(value: GminBox) -> ExtraBox {
+        ExtraBox::GminBox(value)
+    }
+}
+
+impl Holds<HmhdBox> for ExtraBox {
+    ghost wrapped = { boxes.HmhdBox };
+
+    fn wrap(value: HmhdBox) -> ExtraBox {
+        ExtraBox::HmhdBox(value)
+    }
+}
+
 impl Holds<HvccBox> for ExtraBox {
     ghost wrapped = { boxes.HvccBox };
 
     fn wrap(value: HvccBox) -> ExtraBox {
         ExtraBox::HvccBox(value)
+    }
+}
+
+impl Holds<IlocBox> for ExtraBox {
+    ghost wrapped = { boxes.IlocBox };
+
+    fn wrap(value: IlocBox) -> ExtraBox {
+        ExtraBox::IlocBox(value)
+    }
+}
+
+impl Holds<ImirBox> for ExtraBox {
+    ghost wrapped = { boxes.ImirBox };
+
+    fn wrap(value: ImirBox) -> ExtraBox {
+        ExtraBox::ImirBox(value)
+    }
+}
+
+impl Holds<InfeBox> for ExtraBox {
+    ghost wrapped = { boxes.InfeBox };
+
+    fn wrap(value: InfeBox) -> ExtraBox {
+        ExtraBox::InfeBox(value)
+    }
+}
+
+impl Holds<IodsBox> for ExtraBox {
+    ghost wrapped = { boxes.IodsBox };
+
+    fn wrap(value: IodsBox) -> ExtraBox {
+        ExtraBox::IodsBox(value)
+    }
+}
+
+impl Holds<IpmaBox> for ExtraBox {
+    ghost wrapped = { boxes.IpmaBox };
+
+    fn wrap(value: IpmaBox) -> ExtraBox {
+        ExtraBox::IpmaBox(value)
+    }
+}
+
+impl Holds<IrotBox> for ExtraBox {
+    ghost wrapped = { boxes.IrotBox };
+
+    fn wrap(value: IrotBox) -> ExtraBox {
+        ExtraBox::IrotBox(value)
+    }
+}
+
+impl Holds<IspeBox> for ExtraBox {
+    ghost wrapped = { boxes.IspeBox };
+
+    fn wrap(value: IspeBox) -> ExtraBox {
+        ExtraBox::IspeBox(value)
     }
 }
 
@@ -363,6 +733,14 @@ impl Holds<KindBox> for ExtraBox {
     }
 }
 
+impl Holds<LevaBox> for ExtraBox {
+    ghost wrapped = { boxes.LevaBox };
+
+    fn wrap(value: LevaBox) -> ExtraBox {
+        ExtraBox::LevaBox(value)
+    }
+}
+
 impl Holds<MdcvBox> for ExtraBox {
     ghost wrapped = { boxes.MdcvBox };
 
@@ -371,11 +749,27 @@ impl Holds<MdcvBox> for ExtraBox {
     }
 }
 
+impl Holds<MeanBox> for ExtraBox {
+    ghost wrapped = { boxes.MeanBox };
+
+    fn wrap(value: MeanBox) -> ExtraBox {
+        ExtraBox::MeanBox(value)
+    }
+}
+
 impl Holds<MfroBox> for ExtraBox {
     ghost wrapped = { boxes.MfroBox };
 
     fn wrap(value: MfroBox) -> ExtraBox {
         ExtraBox::MfroBox(value)
+    }
+}
+
+impl Holds<NameBox> for ExtraBox {
+    ghost wrapped = { boxes.NameBox };
+
+    fn wrap(value: NameBox) -> ExtraBox {
+        ExtraBox::NameBox(value)
     }
 }
 
@@ -392,6 +786,22 @@ impl Holds<PaspBox> for ExtraBox {
 
     fn wrap(value: PaspBox) -> ExtraBox {
         ExtraBox::PaspBox(value)
+    }
+}
+
+impl Holds<PitmBox> for ExtraBox {
+    ghost wrapped = { boxes.PitmBox };
+
+    fn wrap(value: PitmBox) -> ExtraBox {
+        ExtraBox::PitmBox(value)
+    }
+}
+
+impl Holds<PixiBox> for ExtraBox {
+    ghost wrapped = { boxes.PixiBox };
+
+    fn wrap(value: PixiBox) -> ExtraBox {
+        ExtraBox::PixiBox(value)
     }
 }
 
@@ -475,6 +885,30 @@ impl Holds<SidxBox> for ExtraBox {
     }
 }
 
+impl Holds<SratBox> for ExtraBox {
+    ghost wrapped = { boxes.SratBox };
+
+    fn wrap(value: SratBox) -> ExtraBox {
+        ExtraBox::SratBox(value)
+    }
+}
+
+impl Holds<SsixBox> for ExtraBox {
+    ghost wrapped = { boxes.SsixBox };
+
+    fn wrap(value: SsixBox) -> ExtraBox {
+        ExtraBox::SsixBox(value)
+    }
+}
+
+impl Holds<SthdBox> for ExtraBox {
+    ghost wrapped = { boxes.SthdBox };
+
+    fn wrap(value: SthdBox) -> ExtraBox {
+        ExtraBox::SthdBox(value)
+    }
+}
+
 impl Holds<StppBox> for ExtraBox {
     ghost wrapped = { boxes.StppBox };
 
@@ -507,11 +941,27 @@ impl Holds<SubsBox> for ExtraBox {
     }
 }
 
+impl Holds<TcmiBox> for ExtraBox {
+    ghost wrapped = { boxes.TcmiBox };
+
+    fn wrap(value: TcmiBox) -> ExtraBox {
+        ExtraBox::TcmiBox(value)
+    }
+}
+
 impl Holds<TencBox> for ExtraBox {
     ghost wrapped = { boxes.TencBox };
 
     fn wrap(value: TencBox) -> ExtraBox {
         ExtraBox::TencBox(value)
+    }
+}
+
+impl Holds<TextBox> for ExtraBox {
+    ghost wrapped = { boxes.TextBox };
+
+    fn wrap(value: TextBox) -> ExtraBox {
+        ExtraBox::TextBox(value)
     }
 }
 
@@ -528,6 +978,14 @@ impl Holds<TrefBox> for ExtraBox {
 
     fn wrap(value: TrefBox) -> ExtraBox {
         ExtraBox::TrefBox(value)
+    }
+}
+
+impl Holds<VvccBox> for ExtraBox {
+    ghost wrapped = { boxes.VvccBox };
+
+    fn wrap(value: VvccBox) -> ExtraBox {
+        ExtraBox::VvccBox(value)
     }
 }
 

@@ -6,8 +6,8 @@ use Rattle.mp4_frame.specs.Members.{reading_known, Is}
 use Rattle.mp4_extra.specs.ExtraBox.{kind_of}
 use Rattle.mp4_extra.specs.contracts.extra_box.ExtraBoxDeclares.TheImpl.{ghosts}
 use Rattle.mp4_extra.specs.declared.extra_box.ExtraBox.{ExtraBox}
-use Rattle.mp4_extra.specs.declared.extra_type.ExtraType.{ExtraType}
-use Rattle.mp4_extra.specs.declared.extra_type.ExtraType.TheVariants as types
+use Rattle.mp4_extra.specs.declared.extra_box.ExtraType.{ExtraType}
+use Rattle.mp4_extra.specs.declared.extra_box.ExtraType.TheVariants as types
 use Rattle.mp4_extra.proofs.extra_box.read_of.Goals as goal
 
 -- equal types have the same readings
@@ -17,15 +17,35 @@ of_type : (t u : ExtraType) (r : Result ExtraBox Error) (bytes : List ℕ) (star
 of_type t u r bytes start size is a =
     subst (λ (v : ExtraType). Answers r (reading_known (Is (kind_of ghosts.declared v)) bytes start size)) (sym is) a
 
+pub returns-in-AlacBox-clause-answer : goal.returns-in-AlacBox-clause-answer
+returns-in-AlacBox-clause-answer c =
+    of_type c.args.of types.AlacBox _ c.args.reader.now.bytes.now (c.args.reader.now.position - 8) c.args.size
+    c.in-AlacBox.is c.read_as.ensures.answer
+
+pub returns-in-AuxcBox-clause-answer : goal.returns-in-AuxcBox-clause-answer
+returns-in-AuxcBox-clause-answer c =
+    of_type c.args.of types.AuxcBox _ c.args.reader.now.bytes.now (c.args.reader.now.position - 8) c.args.size
+    c.in-AuxcBox.is c.read_as-in-AuxcBox.ensures.answer
+
 pub returns-in-Av1cBox-clause-answer : goal.returns-in-Av1cBox-clause-answer
 returns-in-Av1cBox-clause-answer c =
     of_type c.args.of types.Av1cBox _ c.args.reader.now.bytes.now (c.args.reader.now.position - 8) c.args.size
-    c.in-Av1cBox.is c.read_as.ensures.answer
+    c.in-Av1cBox.is c.read_as-in-Av1cBox.ensures.answer
 
 pub returns-in-BtrtBox-clause-answer : goal.returns-in-BtrtBox-clause-answer
 returns-in-BtrtBox-clause-answer c =
     of_type c.args.of types.BtrtBox _ c.args.reader.now.bytes.now (c.args.reader.now.position - 8) c.args.size
     c.in-BtrtBox.is c.read_as-in-BtrtBox.ensures.answer
+
+pub returns-in-ChanBox-clause-answer : goal.returns-in-ChanBox-clause-answer
+returns-in-ChanBox-clause-answer c =
+    of_type c.args.of types.ChanBox _ c.args.reader.now.bytes.now (c.args.reader.now.position - 8) c.args.size
+    c.in-ChanBox.is c.read_as-in-ChanBox.ensures.answer
+
+pub returns-in-ChnlBox-clause-answer : goal.returns-in-ChnlBox-clause-answer
+returns-in-ChnlBox-clause-answer c =
+    of_type c.args.of types.ChnlBox _ c.args.reader.now.bytes.now (c.args.reader.now.position - 8) c.args.size
+    c.in-ChnlBox.is c.read_as-in-ChnlBox.ensures.answer
 
 pub returns-in-ClapBox-clause-answer : goal.returns-in-ClapBox-clause-answer
 returns-in-ClapBox-clause-answer c =
@@ -72,20 +92,85 @@ returns-in-DopsBox-clause-answer c =
     of_type c.args.of types.DopsBox _ c.args.reader.now.bytes.now (c.args.reader.now.position - 8) c.args.size
     c.in-DopsBox.is c.read_as-in-DopsBox.ensures.answer
 
+pub returns-in-DvccBox-clause-answer : goal.returns-in-DvccBox-clause-answer
+returns-in-DvccBox-clause-answer c =
+    of_type c.args.of types.DvccBox _ c.args.reader.now.bytes.now (c.args.reader.now.position - 8) c.args.size
+    c.in-DvccBox.is c.read_as-in-DvccBox.ensures.answer
+
+pub returns-in-DvvcBox-clause-answer : goal.returns-in-DvvcBox-clause-answer
+returns-in-DvvcBox-clause-answer c =
+    of_type c.args.of types.DvvcBox _ c.args.reader.now.bytes.now (c.args.reader.now.position - 8) c.args.size
+    c.in-DvvcBox.is c.read_as-in-DvvcBox.ensures.answer
+
 pub returns-in-ElngBox-clause-answer : goal.returns-in-ElngBox-clause-answer
 returns-in-ElngBox-clause-answer c =
     of_type c.args.of types.ElngBox _ c.args.reader.now.bytes.now (c.args.reader.now.position - 8) c.args.size
     c.in-ElngBox.is c.read_as-in-ElngBox.ensures.answer
+
+pub returns-in-EndaBox-clause-answer : goal.returns-in-EndaBox-clause-answer
+returns-in-EndaBox-clause-answer c =
+    of_type c.args.of types.EndaBox _ c.args.reader.now.bytes.now (c.args.reader.now.position - 8) c.args.size
+    c.in-EndaBox.is c.read_as-in-EndaBox.ensures.answer
+
+pub returns-in-FielBox-clause-answer : goal.returns-in-FielBox-clause-answer
+returns-in-FielBox-clause-answer c =
+    of_type c.args.of types.FielBox _ c.args.reader.now.bytes.now (c.args.reader.now.position - 8) c.args.size
+    c.in-FielBox.is c.read_as-in-FielBox.ensures.answer
 
 pub returns-in-FrmaBox-clause-answer : goal.returns-in-FrmaBox-clause-answer
 returns-in-FrmaBox-clause-answer c =
     of_type c.args.of types.FrmaBox _ c.args.reader.now.bytes.now (c.args.reader.now.position - 8) c.args.size
     c.in-FrmaBox.is c.read_as-in-FrmaBox.ensures.answer
 
+pub returns-in-GminBox-clause-answer : goal.returns-in-GminBox-clause-answer
+returns-in-GminBox-clause-answer c =
+    of_type c.args.of types.GminBox _ c.args.reader.now.bytes.now (c.args.reader.now.position - 8) c.args.size
+    c.in-GminBox.is c.read_as-in-GminBox.ensures.answer
+
+pub returns-in-HmhdBox-clause-answer : goal.returns-in-HmhdBox-clause-answer
+returns-in-HmhdBox-clause-answer c =
+    of_type c.args.of types.HmhdBox _ c.args.reader.now.bytes.now (c.args.reader.now.position - 8) c.args.size
+    c.in-HmhdBox.is c.read_as-in-HmhdBox.ensures.answer
+
 pub returns-in-HvccBox-clause-answer : goal.returns-in-HvccBox-clause-answer
 returns-in-HvccBox-clause-answer c =
     of_type c.args.of types.HvccBox _ c.args.reader.now.bytes.now (c.args.reader.now.position - 8) c.args.size
     c.in-HvccBox.is c.read_as-in-HvccBox.ensures.answer
+
+pub returns-in-IlocBox-clause-answer : goal.returns-in-IlocBox-clause-answer
+returns-in-IlocBox-clause-answer c =
+    of_type c.args.of types.IlocBox _ c.args.reader.now.bytes.now (c.args.reader.now.position - 8) c.args.size
+    c.in-IlocBox.is c.read_as-in-IlocBox.ensures.answer
+
+pub returns-in-ImirBox-clause-answer : goal.returns-in-ImirBox-clause-answer
+returns-in-ImirBox-clause-answer c =
+    of_type c.args.of types.ImirBox _ c.args.reader.now.bytes.now (c.args.reader.now.position - 8) c.args.size
+    c.in-ImirBox.is c.read_as-in-ImirBox.ensures.answer
+
+pub returns-in-InfeBox-clause-answer : goal.returns-in-InfeBox-clause-answer
+returns-in-InfeBox-clause-answer c =
+    of_type c.args.of types.InfeBox _ c.args.reader.now.bytes.now (c.args.reader.now.position - 8) c.args.size
+    c.in-InfeBox.is c.read_as-in-InfeBox.ensures.answer
+
+pub returns-in-IodsBox-clause-answer : goal.returns-in-IodsBox-clause-answer
+returns-in-IodsBox-clause-answer c =
+    of_type c.args.of types.IodsBox _ c.args.reader.now.bytes.now (c.args.reader.now.position - 8) c.args.size
+    c.in-IodsBox.is c.read_as-in-IodsBox.ensures.answer
+
+pub returns-in-IpmaBox-clause-answer : goal.returns-in-IpmaBox-clause-answer
+returns-in-IpmaBox-clause-answer c =
+    of_type c.args.of types.IpmaBox _ c.args.reader.now.bytes.now (c.args.reader.now.position - 8) c.args.size
+    c.in-IpmaBox.is c.read_as-in-IpmaBox.ensures.answer
+
+pub returns-in-IrotBox-clause-answer : goal.returns-in-IrotBox-clause-answer
+returns-in-IrotBox-clause-answer c =
+    of_type c.args.of types.IrotBox _ c.args.reader.now.bytes.now (c.args.reader.now.position - 8) c.args.size
+    c.in-IrotBox.is c.read_as-in-IrotBox.ensures.answer
+
+pub returns-in-IspeBox-clause-answer : goal.returns-in-IspeBox-clause-answer
+returns-in-IspeBox-clause-answer c =
+    of_type c.args.of types.IspeBox _ c.args.reader.now.bytes.now (c.args.reader.now.position - 8) c.args.size
+    c.in-IspeBox.is c.read_as-in-IspeBox.ensures.answer
 
 pub returns-in-KeysBox-clause-answer : goal.returns-in-KeysBox-clause-answer
 returns-in-KeysBox-clause-answer c =
@@ -97,15 +182,30 @@ returns-in-KindBox-clause-answer c =
     of_type c.args.of types.KindBox _ c.args.reader.now.bytes.now (c.args.reader.now.position - 8) c.args.size
     c.in-KindBox.is c.read_as-in-KindBox.ensures.answer
 
+pub returns-in-LevaBox-clause-answer : goal.returns-in-LevaBox-clause-answer
+returns-in-LevaBox-clause-answer c =
+    of_type c.args.of types.LevaBox _ c.args.reader.now.bytes.now (c.args.reader.now.position - 8) c.args.size
+    c.in-LevaBox.is c.read_as-in-LevaBox.ensures.answer
+
 pub returns-in-MdcvBox-clause-answer : goal.returns-in-MdcvBox-clause-answer
 returns-in-MdcvBox-clause-answer c =
     of_type c.args.of types.MdcvBox _ c.args.reader.now.bytes.now (c.args.reader.now.position - 8) c.args.size
     c.in-MdcvBox.is c.read_as-in-MdcvBox.ensures.answer
 
+pub returns-in-MeanBox-clause-answer : goal.returns-in-MeanBox-clause-answer
+returns-in-MeanBox-clause-answer c =
+    of_type c.args.of types.MeanBox _ c.args.reader.now.bytes.now (c.args.reader.now.position - 8) c.args.size
+    c.in-MeanBox.is c.read_as-in-MeanBox.ensures.answer
+
 pub returns-in-MfroBox-clause-answer : goal.returns-in-MfroBox-clause-answer
 returns-in-MfroBox-clause-answer c =
     of_type c.args.of types.MfroBox _ c.args.reader.now.bytes.now (c.args.reader.now.position - 8) c.args.size
     c.in-MfroBox.is c.read_as-in-MfroBox.ensures.answer
+
+pub returns-in-NameBox-clause-answer : goal.returns-in-NameBox-clause-answer
+returns-in-NameBox-clause-answer c =
+    of_type c.args.of types.NameBox _ c.args.reader.now.bytes.now (c.args.reader.now.position - 8) c.args.size
+    c.in-NameBox.is c.read_as-in-NameBox.ensures.answer
 
 pub returns-in-NmhdBox-clause-answer : goal.returns-in-NmhdBox-clause-answer
 returns-in-NmhdBox-clause-answer c =
@@ -116,6 +216,16 @@ pub returns-in-PaspBox-clause-answer : goal.returns-in-PaspBox-clause-answer
 returns-in-PaspBox-clause-answer c =
     of_type c.args.of types.PaspBox _ c.args.reader.now.bytes.now (c.args.reader.now.position - 8) c.args.size
     c.in-PaspBox.is c.read_as-in-PaspBox.ensures.answer
+
+pub returns-in-PitmBox-clause-answer : goal.returns-in-PitmBox-clause-answer
+returns-in-PitmBox-clause-answer c =
+    of_type c.args.of types.PitmBox _ c.args.reader.now.bytes.now (c.args.reader.now.position - 8) c.args.size
+    c.in-PitmBox.is c.read_as-in-PitmBox.ensures.answer
+
+pub returns-in-PixiBox-clause-answer : goal.returns-in-PixiBox-clause-answer
+returns-in-PixiBox-clause-answer c =
+    of_type c.args.of types.PixiBox _ c.args.reader.now.bytes.now (c.args.reader.now.position - 8) c.args.size
+    c.in-PixiBox.is c.read_as-in-PixiBox.ensures.answer
 
 pub returns-in-PrftBox-clause-answer : goal.returns-in-PrftBox-clause-answer
 returns-in-PrftBox-clause-answer c =
@@ -167,6 +277,21 @@ returns-in-SidxBox-clause-answer c =
     of_type c.args.of types.SidxBox _ c.args.reader.now.bytes.now (c.args.reader.now.position - 8) c.args.size
     c.in-SidxBox.is c.read_as-in-SidxBox.ensures.answer
 
+pub returns-in-SratBox-clause-answer : goal.returns-in-SratBox-clause-answer
+returns-in-SratBox-clause-answer c =
+    of_type c.args.of types.SratBox _ c.args.reader.now.bytes.now (c.args.reader.now.position - 8) c.args.size
+    c.in-SratBox.is c.read_as-in-SratBox.ensures.answer
+
+pub returns-in-SsixBox-clause-answer : goal.returns-in-SsixBox-clause-answer
+returns-in-SsixBox-clause-answer c =
+    of_type c.args.of types.SsixBox _ c.args.reader.now.bytes.now (c.args.reader.now.position - 8) c.args.size
+    c.in-SsixBox.is c.read_as-in-SsixBox.ensures.answer
+
+pub returns-in-SthdBox-clause-answer : goal.returns-in-SthdBox-clause-answer
+returns-in-SthdBox-clause-answer c =
+    of_type c.args.of types.SthdBox _ c.args.reader.now.bytes.now (c.args.reader.now.position - 8) c.args.size
+    c.in-SthdBox.is c.read_as-in-SthdBox.ensures.answer
+
 pub returns-in-StppBox-clause-answer : goal.returns-in-StppBox-clause-answer
 returns-in-StppBox-clause-answer c =
     of_type c.args.of types.StppBox _ c.args.reader.now.bytes.now (c.args.reader.now.position - 8) c.args.size
@@ -187,10 +312,20 @@ returns-in-SubsBox-clause-answer c =
     of_type c.args.of types.SubsBox _ c.args.reader.now.bytes.now (c.args.reader.now.position - 8) c.args.size
     c.in-SubsBox.is c.read_as-in-SubsBox.ensures.answer
 
+pub returns-in-TcmiBox-clause-answer : goal.returns-in-TcmiBox-clause-answer
+returns-in-TcmiBox-clause-answer c =
+    of_type c.args.of types.TcmiBox _ c.args.reader.now.bytes.now (c.args.reader.now.position - 8) c.args.size
+    c.in-TcmiBox.is c.read_as-in-TcmiBox.ensures.answer
+
 pub returns-in-TencBox-clause-answer : goal.returns-in-TencBox-clause-answer
 returns-in-TencBox-clause-answer c =
     of_type c.args.of types.TencBox _ c.args.reader.now.bytes.now (c.args.reader.now.position - 8) c.args.size
     c.in-TencBox.is c.read_as-in-TencBox.ensures.answer
+
+pub returns-in-TextBox-clause-answer : goal.returns-in-TextBox-clause-answer
+returns-in-TextBox-clause-answer c =
+    of_type c.args.of types.TextBox _ c.args.reader.now.bytes.now (c.args.reader.now.position - 8) c.args.size
+    c.in-TextBox.is c.read_as-in-TextBox.ensures.answer
 
 pub returns-in-TfraBox-clause-answer : goal.returns-in-TfraBox-clause-answer
 returns-in-TfraBox-clause-answer c =
@@ -201,6 +336,11 @@ pub returns-in-TrefBox-clause-answer : goal.returns-in-TrefBox-clause-answer
 returns-in-TrefBox-clause-answer c =
     of_type c.args.of types.TrefBox _ c.args.reader.now.bytes.now (c.args.reader.now.position - 8) c.args.size
     c.in-TrefBox.is c.read_as-in-TrefBox.ensures.answer
+
+pub returns-in-VvccBox-clause-answer : goal.returns-in-VvccBox-clause-answer
+returns-in-VvccBox-clause-answer c =
+    of_type c.args.of types.VvccBox _ c.args.reader.now.bytes.now (c.args.reader.now.position - 8) c.args.size
+    c.in-VvccBox.is c.read_as-in-VvccBox.ensures.answer
 
 pub returns-in-WvttBox-clause-answer : goal.returns-in-WvttBox-clause-answer
 returns-in-WvttBox-clause-answer c =

@@ -1,16 +1,40 @@
 use Rattle.mp4_extra.proofs.extra_box.ExtraBoxBoxEnum.visit.Goals as goal
 
 pub visit_declared-requires : goal.visit_declared-requires
-visit_declared-requires g c = rw c.in-Av1cBox.is at c.requires
+visit_declared-requires g c = rw c.in-AlacBox.is at c.requires
+
+pub returns-in-AlacBox : goal.returns-in-AlacBox
+returns-in-AlacBox g c = rw c.in-AlacBox.is c.visit_declared.ensures
+
+pub visit_declared-requires-in-AuxcBox : goal.visit_declared-requires-in-AuxcBox
+visit_declared-requires-in-AuxcBox g c = rw c.in-AuxcBox.is at c.requires
+
+pub returns-in-AuxcBox : goal.returns-in-AuxcBox
+returns-in-AuxcBox g c = rw c.in-AuxcBox.is c.visit_declared-in-AuxcBox.ensures
+
+pub visit_declared-requires-in-Av1cBox : goal.visit_declared-requires-in-Av1cBox
+visit_declared-requires-in-Av1cBox g c = rw c.in-Av1cBox.is at c.requires
 
 pub returns-in-Av1cBox : goal.returns-in-Av1cBox
-returns-in-Av1cBox g c = rw c.in-Av1cBox.is c.visit_declared.ensures
+returns-in-Av1cBox g c = rw c.in-Av1cBox.is c.visit_declared-in-Av1cBox.ensures
 
 pub visit_declared-requires-in-BtrtBox : goal.visit_declared-requires-in-BtrtBox
 visit_declared-requires-in-BtrtBox g c = rw c.in-BtrtBox.is at c.requires
 
 pub returns-in-BtrtBox : goal.returns-in-BtrtBox
 returns-in-BtrtBox g c = rw c.in-BtrtBox.is c.visit_declared-in-BtrtBox.ensures
+
+pub visit_declared-requires-in-ChanBox : goal.visit_declared-requires-in-ChanBox
+visit_declared-requires-in-ChanBox g c = rw c.in-ChanBox.is at c.requires
+
+pub returns-in-ChanBox : goal.returns-in-ChanBox
+returns-in-ChanBox g c = rw c.in-ChanBox.is c.visit_declared-in-ChanBox.ensures
+
+pub visit_declared-requires-in-ChnlBox : goal.visit_declared-requires-in-ChnlBox
+visit_declared-requires-in-ChnlBox g c = rw c.in-ChnlBox.is at c.requires
+
+pub returns-in-ChnlBox : goal.returns-in-ChnlBox
+returns-in-ChnlBox g c = rw c.in-ChnlBox.is c.visit_declared-in-ChnlBox.ensures
 
 pub visit_declared-requires-in-ClapBox : goal.visit_declared-requires-in-ClapBox
 visit_declared-requires-in-ClapBox g c = rw c.in-ClapBox.is at c.requires
@@ -66,11 +90,35 @@ visit_declared-requires-in-DopsBox g c = rw c.in-DopsBox.is at c.requires
 pub returns-in-DopsBox : goal.returns-in-DopsBox
 returns-in-DopsBox g c = rw c.in-DopsBox.is c.visit_declared-in-DopsBox.ensures
 
+pub visit_declared-requires-in-DvccBox : goal.visit_declared-requires-in-DvccBox
+visit_declared-requires-in-DvccBox g c = rw c.in-DvccBox.is at c.requires
+
+pub returns-in-DvccBox : goal.returns-in-DvccBox
+returns-in-DvccBox g c = rw c.in-DvccBox.is c.visit_declared-in-DvccBox.ensures
+
+pub visit_declared-requires-in-DvvcBox : goal.visit_declared-requires-in-DvvcBox
+visit_declared-requires-in-DvvcBox g c = rw c.in-DvvcBox.is at c.requires
+
+pub returns-in-DvvcBox : goal.returns-in-DvvcBox
+returns-in-DvvcBox g c = rw c.in-DvvcBox.is c.visit_declared-in-DvvcBox.ensures
+
 pub visit_declared-requires-in-ElngBox : goal.visit_declared-requires-in-ElngBox
 visit_declared-requires-in-ElngBox g c = rw c.in-ElngBox.is at c.requires
 
 pub returns-in-ElngBox : goal.returns-in-ElngBox
 returns-in-ElngBox g c = rw c.in-ElngBox.is c.visit_declared-in-ElngBox.ensures
+
+pub visit_declared-requires-in-EndaBox : goal.visit_declared-requires-in-EndaBox
+visit_declared-requires-in-EndaBox g c = rw c.in-EndaBox.is at c.requires
+
+pub returns-in-EndaBox : goal.returns-in-EndaBox
+returns-in-EndaBox g c = rw c.in-EndaBox.is c.visit_declared-in-EndaBox.ensures
+
+pub visit_declared-requires-in-FielBox : goal.visit_declared-requires-in-FielBox
+visit_declared-requires-in-FielBox g c = rw c.in-FielBox.is at c.requires
+
+pub returns-in-FielBox : goal.returns-in-FielBox
+returns-in-FielBox g c = rw c.in-FielBox.is c.visit_declared-in-FielBox.ensures
 
 pub visit_declared-requires-in-FrmaBox : goal.visit_declared-requires-in-FrmaBox
 visit_declared-requires-in-FrmaBox g c = rw c.in-FrmaBox.is at c.requires
@@ -78,11 +126,65 @@ visit_declared-requires-in-FrmaBox g c = rw c.in-FrmaBox.is at c.requires
 pub returns-in-FrmaBox : goal.returns-in-FrmaBox
 returns-in-FrmaBox g c = rw c.in-FrmaBox.is c.visit_declared-in-FrmaBox.ensures
 
+pub visit_declared-requires-in-GminBox : goal.visit_declared-requires-in-GminBox
+visit_declared-requires-in-GminBox g c = rw c.in-GminBox.is at c.requires
+
+pub returns-in-GminBox : goal.returns-in-GminBox
+returns-in-GminBox g c = rw c.in-GminBox.is c.visit_declared-in-GminBox.ensures
+
+pub visit_declared-requires-in-HmhdBox : goal.visit_declared-requires-in-HmhdBox
+visit_declared-requires-in-HmhdBox g c = rw c.in-HmhdBox.is at c.requires
+
+pub returns-in-HmhdBox : goal.returns-in-HmhdBox
+returns-in-HmhdBox g c = rw c.in-HmhdBox.is c.visit_declared-in-HmhdBox.ensures
+
 pub visit_declared-requires-in-HvccBox : goal.visit_declared-requires-in-HvccBox
 visit_declared-requires-in-HvccBox g c = rw c.in-HvccBox.is at c.requires
 
 pub returns-in-HvccBox : goal.returns-in-HvccBox
 returns-in-HvccBox g c = rw c.in-HvccBox.is c.visit_declared-in-HvccBox.ensures
+
+pub visit_declared-requires-in-IlocBox : goal.visit_declared-requires-in-IlocBox
+visit_declared-requires-in-IlocBox g c = rw c.in-IlocBox.is at c.requires
+
+pub returns-in-IlocBox : goal.returns-in-IlocBox
+returns-in-IlocBox g c = rw c.in-IlocBox.is c.visit_declared-in-IlocBox.ensures
+
+pub visit_declared-requires-in-ImirBox : goal.visit_declared-requires-in-ImirBox
+visit_declared-requires-in-ImirBox g c = rw c.in-ImirBox.is at c.requires
+
+pub returns-in-ImirBox : goal.returns-in-ImirBox
+returns-in-ImirBox g c = rw c.in-ImirBox.is c.visit_declared-in-ImirBox.ensures
+
+pub visit_declared-requires-in-InfeBox : goal.visit_declared-requires-in-InfeBox
+visit_declared-requires-in-InfeBox g c = rw c.in-InfeBox.is at c.requires
+
+pub returns-in-InfeBox : goal.returns-in-InfeBox
+returns-in-InfeBox g c = rw c.in-InfeBox.is c.visit_declared-in-InfeBox.ensures
+
+pub visit_declared-requires-in-IodsBox : goal.visit_declared-requires-in-IodsBox
+visit_declared-requires-in-IodsBox g c = rw c.in-IodsBox.is at c.requires
+
+pub returns-in-IodsBox : goal.returns-in-IodsBox
+returns-in-IodsBox g c = rw c.in-IodsBox.is c.visit_declared-in-IodsBox.ensures
+
+pub visit_declared-requires-in-IpmaBox : goal.visit_declared-requires-in-IpmaBox
+visit_declared-requires-in-IpmaBox g c = rw c.in-IpmaBox.is at c.requires
+
+pub returns-in-IpmaBox : goal.returns-in-IpmaBox
+returns-in-IpmaBox g c = rw c.in-IpmaBox.is c.visit_declared-in-IpmaBox.ensures
+
+pub visit_declared-requires-in-IrotBox : goal.visit_declared-requires-in-IrotBox
+visit_declared-requires-in-IrotBox g c = rw c.in-IrotBox.is at c.requires
+
+pub returns-in-IrotBox : goal.returns-in-IrotBox
+returns-in-IrotBox g c = rw c.in-IrotBox.is c.visit_declared-in-IrotBox.ensures
+
+pub visit_declared-requires-in-IspeBox : goal.visit_declared-requires-in-IspeBox
+visit_declared-requires-in-IspeBox g c = rw c.in-IspeBox.is at c.requires
+
+pub returns-in-IspeBox : goal.returns-in-IspeBox
+returns-in-IspeBox g c = rw c.in-IspeBox.is c.visit_declared-in-IspeBox.ensures
 
 pub visit_declared-requires-in-KeysBox : goal.visit_declared-requires-in-KeysBox
 visit_declared-requires-in-KeysBox g c = rw c.in-KeysBox.is at c.requires
@@ -96,17 +198,35 @@ visit_declared-requires-in-KindBox g c = rw c.in-KindBox.is at c.requires
 pub returns-in-KindBox : goal.returns-in-KindBox
 returns-in-KindBox g c = rw c.in-KindBox.is c.visit_declared-in-KindBox.ensures
 
+pub visit_declared-requires-in-LevaBox : goal.visit_declared-requires-in-LevaBox
+visit_declared-requires-in-LevaBox g c = rw c.in-LevaBox.is at c.requires
+
+pub returns-in-LevaBox : goal.returns-in-LevaBox
+returns-in-LevaBox g c = rw c.in-LevaBox.is c.visit_declared-in-LevaBox.ensures
+
 pub visit_declared-requires-in-MdcvBox : goal.visit_declared-requires-in-MdcvBox
 visit_declared-requires-in-MdcvBox g c = rw c.in-MdcvBox.is at c.requires
 
 pub returns-in-MdcvBox : goal.returns-in-MdcvBox
 returns-in-MdcvBox g c = rw c.in-MdcvBox.is c.visit_declared-in-MdcvBox.ensures
 
+pub visit_declared-requires-in-MeanBox : goal.visit_declared-requires-in-MeanBox
+visit_declared-requires-in-MeanBox g c = rw c.in-MeanBox.is at c.requires
+
+pub returns-in-MeanBox : goal.returns-in-MeanBox
+returns-in-MeanBox g c = rw c.in-MeanBox.is c.visit_declared-in-MeanBox.ensures
+
 pub visit_declared-requires-in-MfroBox : goal.visit_declared-requires-in-MfroBox
 visit_declared-requires-in-MfroBox g c = rw c.in-MfroBox.is at c.requires
 
 pub returns-in-MfroBox : goal.returns-in-MfroBox
 returns-in-MfroBox g c = rw c.in-MfroBox.is c.visit_declared-in-MfroBox.ensures
+
+pub visit_declared-requires-in-NameBox : goal.visit_declared-requires-in-NameBox
+visit_declared-requires-in-NameBox g c = rw c.in-NameBox.is at c.requires
+
+pub returns-in-NameBox : goal.returns-in-NameBox
+returns-in-NameBox g c = rw c.in-NameBox.is c.visit_declared-in-NameBox.ensures
 
 pub visit_declared-requires-in-NmhdBox : goal.visit_declared-requires-in-NmhdBox
 visit_declared-requires-in-NmhdBox g c = rw c.in-NmhdBox.is at c.requires
@@ -119,6 +239,18 @@ visit_declared-requires-in-PaspBox g c = rw c.in-PaspBox.is at c.requires
 
 pub returns-in-PaspBox : goal.returns-in-PaspBox
 returns-in-PaspBox g c = rw c.in-PaspBox.is c.visit_declared-in-PaspBox.ensures
+
+pub visit_declared-requires-in-PitmBox : goal.visit_declared-requires-in-PitmBox
+visit_declared-requires-in-PitmBox g c = rw c.in-PitmBox.is at c.requires
+
+pub returns-in-PitmBox : goal.returns-in-PitmBox
+returns-in-PitmBox g c = rw c.in-PitmBox.is c.visit_declared-in-PitmBox.ensures
+
+pub visit_declared-requires-in-PixiBox : goal.visit_declared-requires-in-PixiBox
+visit_declared-requires-in-PixiBox g c = rw c.in-PixiBox.is at c.requires
+
+pub returns-in-PixiBox : goal.returns-in-PixiBox
+returns-in-PixiBox g c = rw c.in-PixiBox.is c.visit_declared-in-PixiBox.ensures
 
 pub visit_declared-requires-in-PrftBox : goal.visit_declared-requires-in-PrftBox
 visit_declared-requires-in-PrftBox g c = rw c.in-PrftBox.is at c.requires
@@ -180,6 +312,24 @@ visit_declared-requires-in-SidxBox g c = rw c.in-SidxBox.is at c.requires
 pub returns-in-SidxBox : goal.returns-in-SidxBox
 returns-in-SidxBox g c = rw c.in-SidxBox.is c.visit_declared-in-SidxBox.ensures
 
+pub visit_declared-requires-in-SratBox : goal.visit_declared-requires-in-SratBox
+visit_declared-requires-in-SratBox g c = rw c.in-SratBox.is at c.requires
+
+pub returns-in-SratBox : goal.returns-in-SratBox
+returns-in-SratBox g c = rw c.in-SratBox.is c.visit_declared-in-SratBox.ensures
+
+pub visit_declared-requires-in-SsixBox : goal.visit_declared-requires-in-SsixBox
+visit_declared-requires-in-SsixBox g c = rw c.in-SsixBox.is at c.requires
+
+pub returns-in-SsixBox : goal.returns-in-SsixBox
+returns-in-SsixBox g c = rw c.in-SsixBox.is c.visit_declared-in-SsixBox.ensures
+
+pub visit_declared-requires-in-SthdBox : goal.visit_declared-requires-in-SthdBox
+visit_declared-requires-in-SthdBox g c = rw c.in-SthdBox.is at c.requires
+
+pub returns-in-SthdBox : goal.returns-in-SthdBox
+returns-in-SthdBox g c = rw c.in-SthdBox.is c.visit_declared-in-SthdBox.ensures
+
 pub visit_declared-requires-in-StppBox : goal.visit_declared-requires-in-StppBox
 visit_declared-requires-in-StppBox g c = rw c.in-StppBox.is at c.requires
 
@@ -204,11 +354,23 @@ visit_declared-requires-in-SubsBox g c = rw c.in-SubsBox.is at c.requires
 pub returns-in-SubsBox : goal.returns-in-SubsBox
 returns-in-SubsBox g c = rw c.in-SubsBox.is c.visit_declared-in-SubsBox.ensures
 
+pub visit_declared-requires-in-TcmiBox : goal.visit_declared-requires-in-TcmiBox
+visit_declared-requires-in-TcmiBox g c = rw c.in-TcmiBox.is at c.requires
+
+pub returns-in-TcmiBox : goal.returns-in-TcmiBox
+returns-in-TcmiBox g c = rw c.in-TcmiBox.is c.visit_declared-in-TcmiBox.ensures
+
 pub visit_declared-requires-in-TencBox : goal.visit_declared-requires-in-TencBox
 visit_declared-requires-in-TencBox g c = rw c.in-TencBox.is at c.requires
 
 pub returns-in-TencBox : goal.returns-in-TencBox
 returns-in-TencBox g c = rw c.in-TencBox.is c.visit_declared-in-TencBox.ensures
+
+pub visit_declared-requires-in-TextBox : goal.visit_declared-requires-in-TextBox
+visit_declared-requires-in-TextBox g c = rw c.in-TextBox.is at c.requires
+
+pub returns-in-TextBox : goal.returns-in-TextBox
+returns-in-TextBox g c = rw c.in-TextBox.is c.visit_declared-in-TextBox.ensures
 
 pub visit_declared-requires-in-TfraBox : goal.visit_declared-requires-in-TfraBox
 visit_declared-requires-in-TfraBox g c = rw c.in-TfraBox.is at c.requires
@@ -221,6 +383,12 @@ visit_declared-requires-in-TrefBox g c = rw c.in-TrefBox.is at c.requires
 
 pub returns-in-TrefBox : goal.returns-in-TrefBox
 returns-in-TrefBox g c = rw c.in-TrefBox.is c.visit_declared-in-TrefBox.ensures
+
+pub visit_declared-requires-in-VvccBox : goal.visit_declared-requires-in-VvccBox
+visit_declared-requires-in-VvccBox g c = rw c.in-VvccBox.is at c.requires
+
+pub returns-in-VvccBox : goal.returns-in-VvccBox
+returns-in-VvccBox g c = rw c.in-VvccBox.is c.visit_declared-in-VvccBox.ensures
 
 pub visit_declared-requires-in-WvttBox : goal.visit_declared-requires-in-WvttBox
 visit_declared-requires-in-WvttBox g c = rw c.in-WvttBox.is at c.requires

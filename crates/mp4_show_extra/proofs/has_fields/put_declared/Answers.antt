@@ -1,5 +1,5 @@
 use Rattle.mp4_show.proofs.Handed.{all_members}
-use Rattle.mp4_show_extra.proofs.fields.put_declared.Goals as goal
+use Rattle.mp4_show_extra.proofs.has_fields.put_declared.Goals as goal
 
 pub returns : goal.returns
 returns g c =
