@@ -1,3 +1,11 @@
+pub mod Catalogue
+pub mod CatalogueLaws
 pub mod ExtraBox
-pub mod ExtraTypeLaws
-pub mod ExtraBoxLaws
+pub mod PictureBox
+pub mod PictureBoxLaws
+pub mod SampleBox
+pub mod SampleBoxLaws
+pub mod SoundBox
+pub mod SoundBoxLaws
+pub mod TrackBox
+pub mod TrackBoxLaws

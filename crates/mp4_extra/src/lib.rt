@@ -2,9 +2,63 @@
 //! are in `mp4_extra_media`, `mp4_extra_samples` and `mp4_extra_segments`; this crate exports them all.
 #![tactic(auto)]
 
-mod extra_box;
+/// Matches on a value of the enum `$enum` with the same arm for each variant: it binds the box inside and evaluates the
+/// expression.
+macro_rules! each {
+    ([$($held:ident $code:ident),*] $enum:ident, $value:expr, $inside:ident => $answer:expr) => {
+        match $value {
+            $($enum::$held($inside) => $answer,)*
+        }
+    };
+}
 
-pub use extra_box::ExtraBox;
+/// Lists all types.
+macro_rules! types {
+    ([$($held:ident $code:ident),*] $types:ident) => {
+        &[$($types::$held),*]
+    };
+}
+
+/// Matches on a code with an arm for each type, which is the type.
+macro_rules! by_code {
+    ([$($held:ident $code:ident),*] $types:ident, $found:expr) => {
+        match $found {
+            $(codes::$code => Some($types::$held),)*
+            _ => None,
+        }
+    };
+}
+
+/// Matches on a type with an arm for each type, which reads a box of this type as a value of `$enum`.
+macro_rules! by_type {
+    ([$($held:ident $code:ident),*] $types:ident, $enum:ident, $of:expr, $values:tt) => {
+        match $of {
+            $($types::$held => read_as::<$held, $enum> $values,)*
+        }
+    };
+}
+
+/// Prints a value of `$enum` as its variant, with the box inside.
+macro_rules! print_held {
+    ([$($held:ident $code:ident),*] $enum:ident, $value:expr, $f:expr) => {
+        match $value {
+            $($enum::$held(inside) => print_variant($f, stringify!($held), inside),)*
+        }
+    };
+}
+
+mod declarations;
+mod extra_box;
+mod picture_box;
+mod sample_box;
+mod sound_box;
+mod track_box;
+
+pub use extra_box::{BySubject, ExtraBox};
+pub use picture_box::PictureBox;
+pub use sample_box::SampleBox;
+pub use sound_box::SoundBox;
+pub use track_box::TrackBox;
 pub use mp4_declared::Code;
 pub use mp4_declared::Codes;
 pub use mp4_declared::ListByVersion;
