@@ -34,6 +34,13 @@ declared_as {code} {A} {V} {shape} laws layout shown whole = record {
   whole = whole;
 }
 
+-- the reading and the format of the boxes with a declaration
+abbrev pub reads_as : {code : ℕ} {V : Type 0} → Declaration code V → List ℕ → ℕ → ℕ → Reading V
+reads_as d = reads_declared d.shape d.layout
+
+abbrev pub format_as : {code : ℕ} {V : Type 0} → Declaration code V → Format V
+format_as d = format_declared d.shape d.layout
+
 -- a declaration with a shape that is valid
 pub record ValidDeclaration (code : ℕ) (V : Type 0) : Type 1 where
   pub is : Declaration code V
@@ -68,10 +75,10 @@ Declarations {T} c = (t : T) → ValidDeclaration (c.entry_of t).code (c.entry_o
 
 module _ {T E : Type 0} (c : Catalogue T E) (declared : Declarations c) where
   abbrev pub reads_of : (t : T) → List ℕ → ℕ → ℕ → Reading (c.entry_of t).Fields
-  reads_of t = reads_declared (declared t).is.shape (declared t).is.layout
+  reads_of t = reads_as (declared t).is
 
   abbrev pub format_of : (t : T) → Format (c.entry_of t).Fields
-  format_of t = format_declared (declared t).is.shape (declared t).is.layout
+  format_of t = format_as (declared t).is
 
   abbrev pub kind_of : T → Kind E
   kind_of t = kind (reads_of t) (format_of t) (c.entry_of t).wrap

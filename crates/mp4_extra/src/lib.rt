@@ -5,7 +5,7 @@
 /// Matches on a value of the enum `$enum` with the same arm for each variant: it binds the box inside and evaluates the
 /// expression.
 macro_rules! each {
-    ([$($held:ident $code:ident),*] $enum:ident, $value:expr, $inside:ident => $answer:expr) => {
+    ([$($fields:ident $held:ident $code:ident),*] $enum:ident, $value:expr, $inside:ident => $answer:expr) => {
         match $value {
             $($enum::$held($inside) => $answer,)*
         }
@@ -14,14 +14,14 @@ macro_rules! each {
 
 /// Lists all types.
 macro_rules! types {
-    ([$($held:ident $code:ident),*] $types:ident) => {
+    ([$($fields:ident $held:ident $code:ident),*] $types:ident) => {
         &[$($types::$held),*]
     };
 }
 
 /// Matches on a code with an arm for each type, which is the type.
 macro_rules! by_code {
-    ([$($held:ident $code:ident),*] $types:ident, $found:expr) => {
+    ([$($fields:ident $held:ident $code:ident),*] $types:ident, $found:expr) => {
         match $found {
             $(codes::$code => Some($types::$held),)*
             _ => None,
@@ -31,16 +31,16 @@ macro_rules! by_code {
 
 /// Matches on a type with an arm for each type, which reads a box of this type as a value of `$enum`.
 macro_rules! by_type {
-    ([$($held:ident $code:ident),*] $types:ident, $enum:ident, $of:expr, $values:tt) => {
+    ([$($fields:ident $held:ident $code:ident),*] $types:ident, $enum:ident, $of:expr, $values:tt) => {
         match $of {
-            $($types::$held => read_as::<$held, $enum> $values,)*
+            $($types::$held => read_declared::<$fields, $enum> $values,)*
         }
     };
 }
 
 /// Prints a value of `$enum` as its variant, with the box inside.
 macro_rules! print_held {
-    ([$($held:ident $code:ident),*] $enum:ident, $value:expr, $f:expr) => {
+    ([$($fields:ident $held:ident $code:ident),*] $enum:ident, $value:expr, $f:expr) => {
         match $value {
             $($enum::$held(inside) => print_variant($f, stringify!($held), inside),)*
         }

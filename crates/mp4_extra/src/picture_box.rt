@@ -12,38 +12,38 @@ ghost use Rattle.mp4_extra.specs.declared.picture_box.PictureType.TheVariants as
 ghost use Rattle.mp4_extra.specs.declared.picture_box.PictureBox.TheVariants as boxes;
 
 use super::*;
-use crate::declarations::{Described, print_variant, visit_declared};
+use crate::declarations::{Described, print_variant, read_declared, visit_declared};
 use mp4_compose::CodedEnum;
 use mp4_frame::{
-    BoxEnum, BoxType, BoxVisitor, ByteCursor, Holds, Result, TryClone, clone_as, codes, read_as,
+    BoxEnum, BoxType, BoxVisitor, ByteCursor, Holds, Result, TryClone, clone_as, codes,
 };
 use mp4_shown::{FieldSink, HasFields, View};
 use std::alloc::Global;
 use std::fmt;
 
-/// Calls a macro with the list of all box types in brackets, followed by the other arguments. Each has its variant and
-/// its code.
+/// Calls a macro with the list of all box types in brackets, followed by the other arguments. Each has its fields, its
+/// variant and its code.
 macro_rules! of_boxes {
     ($go:ident, $($rest:tt)*) => {
         $go! {
             [
-                AuxcBox AUXC,
-                Av1cBox AV1C,
-                BtrtBox BTRT,
-                ClapBox CLAP,
-                ClliBox CLLI,
-                ColrBox COLR,
-                DvccBox DVCC,
-                DvvcBox DVVC,
-                FielBox FIEL,
-                HvccBox HVCC,
-                ImirBox IMIR,
-                IrotBox IROT,
-                IspeBox ISPE,
-                MdcvBox MDCV,
-                PaspBox PASP,
-                PixiBox PIXI,
-                VvccBox VVCC
+                Auxc AuxcBox AUXC,
+                Av1c Av1cBox AV1C,
+                Btrt BtrtBox BTRT,
+                Clap ClapBox CLAP,
+                Clli ClliBox CLLI,
+                Colr ColrBox COLR,
+                Dvcc DvccBox DVCC,
+                Dvvc DvvcBox DVVC,
+                Fiel FielBox FIEL,
+                Hvcc HvccBox HVCC,
+                Imir ImirBox IMIR,
+                Irot IrotBox IROT,
+                Ispe IspeBox ISPE,
+                Mdcv MdcvBox MDCV,
+                Pasp PaspBox PASP,
+                Pixi PixiBox PIXI,
+                Vvcc VvccBox VVCC
             ]
             $($rest)*
         }

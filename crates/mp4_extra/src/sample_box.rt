@@ -12,37 +12,37 @@ ghost use Rattle.mp4_extra.specs.declared.sample_box.SampleType.TheVariants as t
 ghost use Rattle.mp4_extra.specs.declared.sample_box.SampleBox.TheVariants as boxes;
 
 use super::*;
-use crate::declarations::{Described, print_variant, visit_declared};
+use crate::declarations::{Described, print_variant, read_declared, visit_declared};
 use mp4_compose::CodedEnum;
 use mp4_frame::{
-    BoxEnum, BoxType, BoxVisitor, ByteCursor, Holds, Result, TryClone, clone_as, codes, read_as,
+    BoxEnum, BoxType, BoxVisitor, ByteCursor, Holds, Result, TryClone, clone_as, codes,
 };
 use mp4_shown::{FieldSink, HasFields, View};
 use std::alloc::Global;
 use std::fmt;
 
-/// Calls a macro with the list of all box types in brackets, followed by the other arguments. Each has its variant and
-/// its code.
+/// Calls a macro with the list of all box types in brackets, followed by the other arguments. Each has its fields, its
+/// variant and its code.
 macro_rules! of_boxes {
     ($go:ident, $($rest:tt)*) => {
         $go! {
             [
-                CslgBox CSLG,
-                LevaBox LEVA,
-                MfroBox MFRO,
-                PrftBox PRFT,
-                SaioBox SAIO,
-                SaizBox SAIZ,
-                SbgpBox SBGP,
-                SdtpBox SDTP,
-                SencBox SENC,
-                SgpdBox SGPD,
-                SidxBox SIDX,
-                SsixBox SSIX,
-                StypBox STYP,
-                Stz2Box STZ2,
-                SubsBox SUBS,
-                TfraBox TFRA
+                Cslg CslgBox CSLG,
+                Leva LevaBox LEVA,
+                Mfro MfroBox MFRO,
+                Prft PrftBox PRFT,
+                Saio SaioBox SAIO,
+                Saiz SaizBox SAIZ,
+                Sbgp SbgpBox SBGP,
+                Sdtp SdtpBox SDTP,
+                Senc SencBox SENC,
+                Sgpd SgpdBox SGPD,
+                Sidx SidxBox SIDX,
+                Ssix SsixBox SSIX,
+                Styp StypBox STYP,
+                Stz2 Stz2Box STZ2,
+                Subs SubsBox SUBS,
+                Tfra TfraBox TFRA
             ]
             $($rest)*
         }

@@ -12,38 +12,38 @@ ghost use Rattle.mp4_extra.specs.declared.sound_box.SoundType.TheVariants as typ
 ghost use Rattle.mp4_extra.specs.declared.sound_box.SoundBox.TheVariants as boxes;
 
 use super::*;
-use crate::declarations::{Described, print_variant, visit_declared};
+use crate::declarations::{Described, print_variant, read_declared, visit_declared};
 use mp4_compose::CodedEnum;
 use mp4_frame::{
-    BoxEnum, BoxType, BoxVisitor, ByteCursor, Holds, Result, TryClone, clone_as, codes, read_as,
+    BoxEnum, BoxType, BoxVisitor, ByteCursor, Holds, Result, TryClone, clone_as, codes,
 };
 use mp4_shown::{FieldSink, HasFields, View};
 use std::alloc::Global;
 use std::fmt;
 
-/// Calls a macro with the list of all box types in brackets, followed by the other arguments. Each has its variant and
-/// its code.
+/// Calls a macro with the list of all box types in brackets, followed by the other arguments. Each has its fields, its
+/// variant and its code.
 macro_rules! of_boxes {
     ($go:ident, $($rest:tt)*) => {
         $go! {
             [
-                AlacBox ALAC,
-                ChanBox CHAN,
-                ChnlBox CHNL,
-                Dac3Box DAC3,
-                Dec3Box DEC3,
-                DflaBox DFLA,
-                DopsBox DOPS,
-                EndaBox ENDA,
-                GminBox GMIN,
-                HmhdBox HMHD,
-                NmhdBox NMHD,
-                SratBox SRAT,
-                SthdBox STHD,
-                StppBox STPP,
-                TcmiBox TCMI,
-                TextBox TEXT,
-                WvttBox WVTT
+                Alac AlacBox ALAC,
+                Chan ChanBox CHAN,
+                Chnl ChnlBox CHNL,
+                Dac3 Dac3Box DAC3,
+                Dec3 Dec3Box DEC3,
+                Dfla DflaBox DFLA,
+                Dops DopsBox DOPS,
+                Enda EndaBox ENDA,
+                Gmin GminBox GMIN,
+                Hmhd HmhdBox HMHD,
+                Nmhd NmhdBox NMHD,
+                Srat SratBox SRAT,
+                Sthd SthdBox STHD,
+                Stpp StppBox STPP,
+                Tcmi TcmiBox TCMI,
+                Text TextBox TEXT,
+                Wvtt WvttBox WVTT
             ]
             $($rest)*
         }

@@ -12,37 +12,37 @@ ghost use Rattle.mp4_extra.specs.declared.track_box.TrackType.TheVariants as typ
 ghost use Rattle.mp4_extra.specs.declared.track_box.TrackBox.TheVariants as boxes;
 
 use super::*;
-use crate::declarations::{Described, print_variant, visit_declared};
+use crate::declarations::{Described, print_variant, read_declared, visit_declared};
 use mp4_compose::CodedEnum;
 use mp4_frame::{
-    BoxEnum, BoxType, BoxVisitor, ByteCursor, Holds, Result, TryClone, clone_as, codes, read_as,
+    BoxEnum, BoxType, BoxVisitor, ByteCursor, Holds, Result, TryClone, clone_as, codes,
 };
 use mp4_shown::{FieldSink, HasFields, View};
 use std::alloc::Global;
 use std::fmt;
 
-/// Calls a macro with the list of all box types in brackets, followed by the other arguments. Each has its variant and
-/// its code.
+/// Calls a macro with the list of all box types in brackets, followed by the other arguments. Each has its fields, its
+/// variant and its code.
 macro_rules! of_boxes {
     ($go:ident, $($rest:tt)*) => {
         $go! {
             [
-                DataBox DATA,
-                ElngBox ELNG,
-                FrmaBox FRMA,
-                IlocBox ILOC,
-                InfeBox INFE,
-                IodsBox IODS,
-                IpmaBox IPMA,
-                KeysBox KEYS,
-                KindBox KIND,
-                MeanBox MEAN,
-                NameBox TAG_NAME,
-                PitmBox PITM,
-                PsshBox PSSH,
-                SchmBox SCHM,
-                TencBox TENC,
-                TrefBox TREF
+                Data DataBox DATA,
+                Elng ElngBox ELNG,
+                Frma FrmaBox FRMA,
+                Iloc IlocBox ILOC,
+                Infe InfeBox INFE,
+                Iods IodsBox IODS,
+                Ipma IpmaBox IPMA,
+                Keys KeysBox KEYS,
+                Kind KindBox KIND,
+                Mean MeanBox MEAN,
+                Name NameBox TAG_NAME,
+                Pitm PitmBox PITM,
+                Pssh PsshBox PSSH,
+                Schm SchmBox SCHM,
+                Tenc TencBox TENC,
+                Tref TrefBox TREF
             ]
             $($rest)*
         }
