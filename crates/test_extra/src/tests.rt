@@ -6,6 +6,7 @@ mod lists;
 mod numbers;
 mod parents;
 mod sample_entries;
+mod subjects;
 
 use mp4_stream::author::{Declared, DeclaredBox};
 use mp4_stream::{Entries, Error, Result as Made, WriteBox};
