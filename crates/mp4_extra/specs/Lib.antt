@@ -1,6 +1,8 @@
 pub mod Catalogue
 pub mod CatalogueLaws
 pub mod ExtraBox
+pub mod ExtraBoxLaws
+pub mod ExtraReading
 pub mod PictureBox
 pub mod PictureBoxLaws
 pub mod SampleBox

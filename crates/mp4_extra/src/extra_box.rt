@@ -1,191 +1,199 @@
-//! The box types of this crate as one type.
+//! The box types of this crate as one enum.
 
-ghost use Rattle.std.specs.Prelude.{◌≡◌, OnOk};
-ghost use Rattle.mp4_shown.specs.Hands.{Hands};
-ghost use Rattle.mp4_extra.specs.ExtraBox.{shown_or, whole_or};
+ghost use Rattle.std.specs.Prelude.{◌≡◌, ◌+◌, ◌-◌, ◌≤◌, IsTrue, OnOk, OnErr, max};
+ghost use Rattle.mp4_frame.specs.Members.{is_known, reading_known};
+ghost use Rattle.mp4_frame.specs.Reading.{Answers, map_reading};
+ghost use Rattle.mp4_extra.specs.Catalogue.{Declarations, inside, kinds, shown, whole};
+ghost use Rattle.mp4_extra.specs.CatalogueLaws.{by_code, members, named};
+ghost use Rattle.mp4_extra.specs.ExtraBox.{declarations, extra_types, known_any, reading_any};
+ghost use Rattle.mp4_extra.specs.ExtraBoxLaws.{extra_laws};
+ghost use Rattle.mp4_extra.specs.declared.extra_box.ExtraBox.TheVariants as boxes;
 
-use super::*;
-use mp4_compose::{CodedBox, Either, StableBox};
-use mp4_frame::{BoxType, ByteCursor, Mp4Box, Result, StreamBox, TryClone, WriteBox};
+use crate::picture_box::{PictureBox, PictureDeclarations};
+use crate::sample_box::{SampleBox, SampleDeclarations};
+use crate::sound_box::{SoundBox, SoundDeclarations};
+use crate::track_box::{TrackBox, TrackDeclarations};
+use mp4_compose::CodedEnum;
+use mp4_frame::{BoxEnum, BoxType, BoxVisitor, ByteCursor, Holds, Result, TryClone, clone_as};
 use mp4_shown::{FieldSink, HasFields, View};
 use std::alloc::Global;
 use std::fmt;
-use std::marker::Model;
-use std::ops::Deref;
 
 /// A box of any type of this crate, by its subject.
-pub type BySubject = Either<Either<PictureBox, SoundBox>, Either<SampleBox, TrackBox>>;
-
-/// A box of any type of this crate.
 #[derive(Drop, PartialEq, Eq)]
-pub struct ExtraBox {
-    inside: BySubject,
+pub enum ExtraBox {
+    /// A box of pictures.
+    Picture(PictureBox),
+    /// A box of sound, text and hints.
+    Sound(SoundBox),
+    /// A box of samples, fragments and segments.
+    Sample(SampleBox),
+    /// A box of tracks, their protection, items and metadata.
+    Track(TrackBox),
 }
 
-impl Model for ExtraBox {
-    ghost use Rattle.mp4_compose.specs.declared.either.Either.{Either};
-    ghost use Rattle.mp4_extra.specs.declared.picture_box.PictureBox.{PictureBox};
-    ghost use Rattle.mp4_extra.specs.declared.sound_box.SoundBox.{SoundBox};
-    ghost use Rattle.mp4_extra.specs.declared.sample_box.SampleBox.{SampleBox};
-    ghost use Rattle.mp4_extra.specs.declared.track_box.TrackBox.{TrackBox};
-
-    ghost Value = { Either (Either PictureBox SoundBox) (Either SampleBox TrackBox) };
-
-    ghost view = { λ b. b.inside };
-
-    ghost inverse = { λ v. record { inside = v } };
-}
-
-impl ExtraBox {
-    /// Creates a box of a box by its subject: `ExtraBox::new(Either::Second(Either::First(SampleBox::SidxBox(sidx))))`.
-    pub fn new(inside: BySubject) -> Self
-        ensures { result ≡ inside }
-    {
-        ExtraBox { inside }
-    }
-
-    /// Returns the box by its subject.
-    pub fn into_inside(self) -> BySubject
-        ensures { result ≡ self }
-    {
-        let ExtraBox { inside } = self;
-        inside
-    }
-}
-
-/// Dereferences to the box by its subject.
-impl Deref for ExtraBox {
-    type Target = BySubject;
-
-    ghost deref_gives = { λ b inside. inside ≡ b };
-
-    fn deref(&self) -> &BySubject {
-        &self.inside
-    }
-}
-
-/// Prints the box inside, of one of two types.
-fn print_either<A: fmt::Debug, B: fmt::Debug, W: fmt::Write>(
-    either: &Either<A, B>,
-    f: &mut fmt::Formatter<W>,
-) -> fmt::Result {
-    match either {
-        Either::First(b) => fmt::Debug::fmt(b, f),
-        Either::Second(b) => fmt::Debug::fmt(b, f),
-    }
-}
-
+/// Prints the box inside.
 impl fmt::Debug for ExtraBox {
     fn fmt<W: fmt::Write>(&self, f: &mut fmt::Formatter<W>) -> fmt::Result {
-        match &self.inside {
-            Either::First(media) => print_either(media, f),
-            Either::Second(tracks) => print_either(tracks, f),
+        match self {
+            ExtraBox::Picture(b) => fmt::Debug::fmt(b, f),
+            ExtraBox::Sound(b) => fmt::Debug::fmt(b, f),
+            ExtraBox::Sample(b) => fmt::Debug::fmt(b, f),
+            ExtraBox::Track(b) => fmt::Debug::fmt(b, f),
         }
     }
 }
 
 impl TryClone for ExtraBox {
     fn try_clone(&self) -> Result<ExtraBox> {
-        Ok(ExtraBox {
-            inside: self.inside.try_clone()?,
-        })
+        match self {
+            ExtraBox::Picture(b) => clone_as(b),
+            ExtraBox::Sound(b) => clone_as(b),
+            ExtraBox::Sample(b) => clone_as(b),
+            ExtraBox::Track(b) => clone_as(b),
+        }
     }
 }
 
-impl Mp4Box for ExtraBox {
-    ghost format = { ⟦<BySubject as Mp4Box>⟧.format };
+/// For the prover: the declarations of all types.
+trait ExtraDeclarations {
+    ghost declared: { Declarations extra_types };
+}
 
-    fn box_type(&self) -> BoxType {
-        self.inside.box_type()
-    }
+impl ExtraDeclarations for ExtraBox {
+    ghost declared = { declarations ⟦<PictureBox as PictureDeclarations>⟧.declared
+        ⟦<SoundBox as SoundDeclarations>⟧.declared ⟦<SampleBox as SampleDeclarations>⟧.declared
+        ⟦<TrackBox as TrackDeclarations>⟧.declared };
+}
 
-    fn box_size(&self) -> u64 {
-        self.inside.box_size()
+/// Returns whether one of the four enums holds boxes with the name `name`.
+fn any_holds(name: BoxType) -> bool
+    ensures { result ≡ known_any ⟦<PictureBox as BoxEnum>⟧.kinds ⟦<SoundBox as BoxEnum>⟧.kinds
+        ⟦<SampleBox as BoxEnum>⟧.kinds ⟦<TrackBox as BoxEnum>⟧.kinds name }
+{
+    PictureBox::holds(name)
+        || SoundBox::holds(name)
+        || SampleBox::holds(name)
+        || TrackBox::holds(name)
+}
+
+/// Reads a box of the enum `A`, like `BoxEnum::read`, and returns it as an `E`.
+fn read_inside<A: BoxEnum, E: Holds<A>>(
+    alloc: Global,
+    name: BoxType,
+    reader: &mut ByteCursor,
+    size: u64,
+) -> Result<E>
+    requires known { IsTrue (is_known (A.kinds name)) }
+    requires after_header { 8 ≤ reader.old.position }
+    ensures answer { Answers result
+        (map_reading E.wrapped (reading_known (A.kinds name) reader.old.bytes.now (reader.old.position - 8) size)) }
+    ensures moved { OnOk result (reader.new.position ≡ reader.old.position - 8 + max (A.least name) size) }
+    ensures kept { OnErr result (reader.new.position ≡ reader.old.position) }
+    ensures bytes { reader.new.bytes ≡ reader.old.bytes }
+{
+    Ok(E::wrap(A::read(alloc, name, reader, size)?))
+}
+
+/// Reads a box by the first of the four enums that holds boxes with its name, like `BoxEnum::read`.
+fn read_any(alloc: Global, name: BoxType, reader: &mut ByteCursor, size: u64) -> Result<ExtraBox>
+    requires known { IsTrue (known_any ⟦<PictureBox as BoxEnum>⟧.kinds ⟦<SoundBox as BoxEnum>⟧.kinds
+        ⟦<SampleBox as BoxEnum>⟧.kinds ⟦<TrackBox as BoxEnum>⟧.kinds name) }
+    requires after_header { 8 ≤ reader.old.position }
+    ensures answer { Answers result (reading_any ⟦<PictureBox as BoxEnum>⟧.kinds ⟦<SoundBox as BoxEnum>⟧.kinds
+        ⟦<SampleBox as BoxEnum>⟧.kinds ⟦<TrackBox as BoxEnum>⟧.kinds name
+        reader.old.bytes.now (reader.old.position - 8) size) }
+    ensures moved { OnOk result (reader.new.position ≡ reader.old.position - 8 + max 0 size) }
+    ensures kept { OnErr result (reader.new.position ≡ reader.old.position) }
+    ensures bytes { reader.new.bytes ≡ reader.old.bytes }
+{
+    if PictureBox::holds(name) {
+        read_inside::<PictureBox, ExtraBox>(alloc, name, reader, size)
+    } else if SoundBox::holds(name) {
+        read_inside::<SoundBox, ExtraBox>(alloc, name, reader, size)
+    } else if SampleBox::holds(name) {
+        read_inside::<SampleBox, ExtraBox>(alloc, name, reader, size)
+    } else {
+        read_inside::<TrackBox, ExtraBox>(alloc, name, reader, size)
     }
 }
 
-impl WriteBox for ExtraBox {
-    fn is_writable(&self) -> bool {
-        self.inside.is_writable()
+impl BoxEnum for ExtraBox {
+    ghost kinds = { kinds extra_types ⟦<ExtraBox as ExtraDeclarations>⟧.declared };
+
+    ghost inside = { inside extra_types ⟦<ExtraBox as ExtraDeclarations>⟧.declared };
+
+    ghost members = { members extra_types extra_laws ⟦<ExtraBox as ExtraDeclarations>⟧.declared };
+
+    fn holds(name: BoxType) -> bool {
+        any_holds(name)
     }
 
-    fn put_box(&self, out: &mut [u8]) {
-        self.inside.put_box(out)
+    fn read(alloc: Global, name: BoxType, reader: &mut ByteCursor, size: u64) -> Result<Self> {
+        read_any(alloc, name, reader, size)
     }
 
-    ghost write_laws = { ⟦<BySubject as WriteBox>⟧.write_laws };
-}
-
-impl StreamBox for ExtraBox {
-    ghost known = { ⟦<BySubject as StreamBox>⟧.known };
-
-    ghost named_reading = { ⟦<BySubject as StreamBox>⟧.named_reading };
-
-    ghost least = { ⟦<BySubject as StreamBox>⟧.least };
-
-    fn knows(name: BoxType) -> bool {
-        <BySubject as StreamBox>::knows(name)
+    fn visit<Q: BoxVisitor>(&self, out: &mut [u8]) -> Q::Answer {
+        match self {
+            ExtraBox::Picture(b) => b.visit::<Q>(out),
+            ExtraBox::Sound(b) => b.visit::<Q>(out),
+            ExtraBox::Sample(b) => b.visit::<Q>(out),
+            ExtraBox::Track(b) => b.visit::<Q>(out),
+        }
     }
 
-    fn read_named(
-        alloc: Global,
-        name: BoxType,
-        reader: &mut ByteCursor,
-        size: u64,
-    ) -> Result<ExtraBox> {
-        Ok(ExtraBox::new(<BySubject as StreamBox>::read_named(
-            alloc, name, reader, size,
-        )?))
-    }
-
-    ghost own_name = { ⟦<BySubject as StreamBox>⟧.own_name };
-
-    ghost read_back = { ⟦<BySubject as StreamBox>⟧.read_back };
-}
-
-impl StableBox for ExtraBox {
-    ghost stable = { ⟦<BySubject as StableBox>⟧.stable };
-
-    ghost own_code = { ⟦<BySubject as StableBox>⟧.own_code };
+    ghost named = { named extra_types extra_laws ⟦<ExtraBox as ExtraDeclarations>⟧.declared };
 }
 
 /// The code identifies the type of a box.
-impl CodedBox for ExtraBox {
-    ghost by_code = { ⟦<BySubject as CodedBox>⟧.by_code };
-}
-
-/// Hands the fields of the box inside, of one of two types, to a sink.
-fn show_either<A: HasFields, B: HasFields, K: FieldSink>(
-    either: &Either<A, B>,
-    view: View,
-    sink: &mut K,
-) -> mp4_shown::Result<()>
-    ensures { OnOk result (Hands K.trace K.after sink.old (shown_or A.shown B.shown view either.now) sink.new) }
-{
-    match either {
-        Either::First(b) => b.show(view, sink),
-        Either::Second(b) => b.show(view, sink),
-    }
+impl CodedEnum for ExtraBox {
+    ghost coded = { by_code extra_types extra_laws ⟦<ExtraBox as ExtraDeclarations>⟧.declared };
 }
 
 /// Shows the fields of the box inside.
 impl HasFields for ExtraBox {
-    ghost shown = { shown_or
-        (shown_or ⟦<PictureBox as HasFields>⟧.shown ⟦<SoundBox as HasFields>⟧.shown)
-        (shown_or ⟦<SampleBox as HasFields>⟧.shown ⟦<TrackBox as HasFields>⟧.shown) };
+    ghost shown = { shown extra_types ⟦<ExtraBox as ExtraDeclarations>⟧.declared };
 
-    ghost whole = { whole_or
-        (shown_or ⟦<PictureBox as HasFields>⟧.shown ⟦<SoundBox as HasFields>⟧.shown)
-        (shown_or ⟦<SampleBox as HasFields>⟧.shown ⟦<TrackBox as HasFields>⟧.shown)
-        (whole_or ⟦<PictureBox as HasFields>⟧.shown ⟦<SoundBox as HasFields>⟧.shown
-        ⟦<PictureBox as HasFields>⟧.whole ⟦<SoundBox as HasFields>⟧.whole)
-        (whole_or ⟦<SampleBox as HasFields>⟧.shown ⟦<TrackBox as HasFields>⟧.shown
-        ⟦<SampleBox as HasFields>⟧.whole ⟦<TrackBox as HasFields>⟧.whole) };
+    ghost whole = { whole extra_types ⟦<ExtraBox as ExtraDeclarations>⟧.declared };
 
     fn show<K: FieldSink>(&self, view: View, sink: &mut K) -> mp4_shown::Result<()> {
-        match &self.inside {
-            Either::First(media) => show_either(media, view, sink),
-            Either::Second(tracks) => show_either(tracks, view, sink),
+        match self {
+            ExtraBox::Picture(b) => b.show(view, sink),
+            ExtraBox::Sound(b) => b.show(view, sink),
+            ExtraBox::Sample(b) => b.show(view, sink),
+            ExtraBox::Track(b) => b.show(view, sink),
         }
+    }
+}
+
+impl Holds<PictureBox> for ExtraBox {
+    ghost wrapped = { boxes.Picture };
+
+    fn wrap(value: PictureBox) -> ExtraBox {
+        ExtraBox::Picture(value)
+    }
+}
+
+impl Holds<SoundBox> for ExtraBox {
+    ghost wrapped = { boxes.Sound };
+
+    fn wrap(value: SoundBox) -> ExtraBox {
+        ExtraBox::Sound(value)
+    }
+}
+
+impl Holds<SampleBox> for ExtraBox {
+    ghost wrapped = { boxes.Sample };
+
+    fn wrap(value: SampleBox) -> ExtraBox {
+        ExtraBox::Sample(value)
+    }
+}
+
+impl Holds<TrackBox> for ExtraBox {
+    ghost wrapped = { boxes.Track };
+
+    fn wrap(value: TrackBox) -> ExtraBox {
+        ExtraBox::Track(value)
     }
 }

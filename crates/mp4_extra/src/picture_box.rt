@@ -118,11 +118,11 @@ impl TryClone for PictureBox {
 }
 
 /// For the prover: the declarations of all types.
-trait Declares {
+pub(crate) trait PictureDeclarations {
     ghost declared: { Declarations picture_types };
 }
 
-impl Declares for PictureBox {
+impl PictureDeclarations for PictureBox {
     ghost declared = { elim [
       | types.AuxcBox ↦ valid_as ⟦<Auxc as Described>⟧.declaration refl
       | types.Av1cBox ↦ valid_as ⟦<Av1c as Described>⟧.declaration refl
@@ -147,7 +147,7 @@ impl Declares for PictureBox {
 /// Reads a box of type `of` after its header, like `BoxEnum::read`. The header has this `size`.
 fn read_of(of: PictureType, alloc: Global, reader: &mut ByteCursor, size: u64) -> Result<PictureBox>
     requires after_header { 8 ≤ reader.old.position }
-    ensures answer { Answers result (reading_known (Is (kind_of picture_types ⟦<PictureBox as Declares>⟧.declared of))
+    ensures answer { Answers result (reading_known (Is (kind_of picture_types ⟦<PictureBox as PictureDeclarations>⟧.declared of))
         reader.old.bytes.now (reader.old.position - 8) size) }
     ensures moved { OnOk result (reader.new.position ≡ reader.old.position - 8 + max 0 size) }
     ensures kept { OnErr result (reader.new.position ≡ reader.old.position) }
@@ -157,11 +157,11 @@ fn read_of(of: PictureType, alloc: Global, reader: &mut ByteCursor, size: u64) -
 }
 
 impl BoxEnum for PictureBox {
-    ghost kinds = { kinds picture_types ⟦<PictureBox as Declares>⟧.declared };
+    ghost kinds = { kinds picture_types ⟦<PictureBox as PictureDeclarations>⟧.declared };
 
-    ghost inside = { inside picture_types ⟦<PictureBox as Declares>⟧.declared };
+    ghost inside = { inside picture_types ⟦<PictureBox as PictureDeclarations>⟧.declared };
 
-    ghost members = { members picture_types picture_laws ⟦<PictureBox as Declares>⟧.declared };
+    ghost members = { members picture_types picture_laws ⟦<PictureBox as PictureDeclarations>⟧.declared };
 
     fn holds(name: BoxType) -> bool {
         type_of(u32::from(name)).is_some()
@@ -178,19 +178,19 @@ impl BoxEnum for PictureBox {
         of_boxes!(each, PictureBox, self, b => visit_declared::<Q, _>(b, out))
     }
 
-    ghost named = { named picture_types picture_laws ⟦<PictureBox as Declares>⟧.declared };
+    ghost named = { named picture_types picture_laws ⟦<PictureBox as PictureDeclarations>⟧.declared };
 }
 
 /// The code identifies the type of a box.
 impl CodedEnum for PictureBox {
-    ghost coded = { by_code picture_types picture_laws ⟦<PictureBox as Declares>⟧.declared };
+    ghost coded = { by_code picture_types picture_laws ⟦<PictureBox as PictureDeclarations>⟧.declared };
 }
 
 /// Shows the fields of the box inside.
 impl HasFields for PictureBox {
-    ghost shown = { shown picture_types ⟦<PictureBox as Declares>⟧.declared };
+    ghost shown = { shown picture_types ⟦<PictureBox as PictureDeclarations>⟧.declared };
 
-    ghost whole = { whole picture_types ⟦<PictureBox as Declares>⟧.declared };
+    ghost whole = { whole picture_types ⟦<PictureBox as PictureDeclarations>⟧.declared };
 
     fn show<K: FieldSink>(&self, view: View, sink: &mut K) -> mp4_shown::Result<()> {
         of_boxes!(each, PictureBox, self, b => b.show(view, sink))

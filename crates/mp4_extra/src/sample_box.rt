@@ -115,11 +115,11 @@ impl TryClone for SampleBox {
 }
 
 /// For the prover: the declarations of all types.
-trait Declares {
+pub(crate) trait SampleDeclarations {
     ghost declared: { Declarations sample_types };
 }
 
-impl Declares for SampleBox {
+impl SampleDeclarations for SampleBox {
     ghost declared = { elim [
       | types.CslgBox ↦ valid_as ⟦<Cslg as Described>⟧.declaration refl
       | types.LevaBox ↦ valid_as ⟦<Leva as Described>⟧.declaration refl
@@ -143,7 +143,7 @@ impl Declares for SampleBox {
 /// Reads a box of type `of` after its header, like `BoxEnum::read`. The header has this `size`.
 fn read_of(of: SampleType, alloc: Global, reader: &mut ByteCursor, size: u64) -> Result<SampleBox>
     requires after_header { 8 ≤ reader.old.position }
-    ensures answer { Answers result (reading_known (Is (kind_of sample_types ⟦<SampleBox as Declares>⟧.declared of))
+    ensures answer { Answers result (reading_known (Is (kind_of sample_types ⟦<SampleBox as SampleDeclarations>⟧.declared of))
         reader.old.bytes.now (reader.old.position - 8) size) }
     ensures moved { OnOk result (reader.new.position ≡ reader.old.position - 8 + max 0 size) }
     ensures kept { OnErr result (reader.new.position ≡ reader.old.position) }
@@ -153,11 +153,11 @@ fn read_of(of: SampleType, alloc: Global, reader: &mut ByteCursor, size: u64) ->
 }
 
 impl BoxEnum for SampleBox {
-    ghost kinds = { kinds sample_types ⟦<SampleBox as Declares>⟧.declared };
+    ghost kinds = { kinds sample_types ⟦<SampleBox as SampleDeclarations>⟧.declared };
 
-    ghost inside = { inside sample_types ⟦<SampleBox as Declares>⟧.declared };
+    ghost inside = { inside sample_types ⟦<SampleBox as SampleDeclarations>⟧.declared };
 
-    ghost members = { members sample_types sample_laws ⟦<SampleBox as Declares>⟧.declared };
+    ghost members = { members sample_types sample_laws ⟦<SampleBox as SampleDeclarations>⟧.declared };
 
     fn holds(name: BoxType) -> bool {
         type_of(u32::from(name)).is_some()
@@ -174,19 +174,19 @@ impl BoxEnum for SampleBox {
         of_boxes!(each, SampleBox, self, b => visit_declared::<Q, _>(b, out))
     }
 
-    ghost named = { named sample_types sample_laws ⟦<SampleBox as Declares>⟧.declared };
+    ghost named = { named sample_types sample_laws ⟦<SampleBox as SampleDeclarations>⟧.declared };
 }
 
 /// The code identifies the type of a box.
 impl CodedEnum for SampleBox {
-    ghost coded = { by_code sample_types sample_laws ⟦<SampleBox as Declares>⟧.declared };
+    ghost coded = { by_code sample_types sample_laws ⟦<SampleBox as SampleDeclarations>⟧.declared };
 }
 
 /// Shows the fields of the box inside.
 impl HasFields for SampleBox {
-    ghost shown = { shown sample_types ⟦<SampleBox as Declares>⟧.declared };
+    ghost shown = { shown sample_types ⟦<SampleBox as SampleDeclarations>⟧.declared };
 
-    ghost whole = { whole sample_types ⟦<SampleBox as Declares>⟧.declared };
+    ghost whole = { whole sample_types ⟦<SampleBox as SampleDeclarations>⟧.declared };
 
     fn show<K: FieldSink>(&self, view: View, sink: &mut K) -> mp4_shown::Result<()> {
         of_boxes!(each, SampleBox, self, b => b.show(view, sink))

@@ -118,11 +118,11 @@ impl TryClone for SoundBox {
 }
 
 /// For the prover: the declarations of all types.
-trait Declares {
+pub(crate) trait SoundDeclarations {
     ghost declared: { Declarations sound_types };
 }
 
-impl Declares for SoundBox {
+impl SoundDeclarations for SoundBox {
     ghost declared = { elim [
       | types.AlacBox ↦ valid_as ⟦<Alac as Described>⟧.declaration refl
       | types.ChanBox ↦ valid_as ⟦<Chan as Described>⟧.declaration refl
@@ -147,7 +147,7 @@ impl Declares for SoundBox {
 /// Reads a box of type `of` after its header, like `BoxEnum::read`. The header has this `size`.
 fn read_of(of: SoundType, alloc: Global, reader: &mut ByteCursor, size: u64) -> Result<SoundBox>
     requires after_header { 8 ≤ reader.old.position }
-    ensures answer { Answers result (reading_known (Is (kind_of sound_types ⟦<SoundBox as Declares>⟧.declared of))
+    ensures answer { Answers result (reading_known (Is (kind_of sound_types ⟦<SoundBox as SoundDeclarations>⟧.declared of))
         reader.old.bytes.now (reader.old.position - 8) size) }
     ensures moved { OnOk result (reader.new.position ≡ reader.old.position - 8 + max 0 size) }
     ensures kept { OnErr result (reader.new.position ≡ reader.old.position) }
@@ -157,11 +157,11 @@ fn read_of(of: SoundType, alloc: Global, reader: &mut ByteCursor, size: u64) -> 
 }
 
 impl BoxEnum for SoundBox {
-    ghost kinds = { kinds sound_types ⟦<SoundBox as Declares>⟧.declared };
+    ghost kinds = { kinds sound_types ⟦<SoundBox as SoundDeclarations>⟧.declared };
 
-    ghost inside = { inside sound_types ⟦<SoundBox as Declares>⟧.declared };
+    ghost inside = { inside sound_types ⟦<SoundBox as SoundDeclarations>⟧.declared };
 
-    ghost members = { members sound_types sound_laws ⟦<SoundBox as Declares>⟧.declared };
+    ghost members = { members sound_types sound_laws ⟦<SoundBox as SoundDeclarations>⟧.declared };
 
     fn holds(name: BoxType) -> bool {
         type_of(u32::from(name)).is_some()
@@ -178,19 +178,19 @@ impl BoxEnum for SoundBox {
         of_boxes!(each, SoundBox, self, b => visit_declared::<Q, _>(b, out))
     }
 
-    ghost named = { named sound_types sound_laws ⟦<SoundBox as Declares>⟧.declared };
+    ghost named = { named sound_types sound_laws ⟦<SoundBox as SoundDeclarations>⟧.declared };
 }
 
 /// The code identifies the type of a box.
 impl CodedEnum for SoundBox {
-    ghost coded = { by_code sound_types sound_laws ⟦<SoundBox as Declares>⟧.declared };
+    ghost coded = { by_code sound_types sound_laws ⟦<SoundBox as SoundDeclarations>⟧.declared };
 }
 
 /// Shows the fields of the box inside.
 impl HasFields for SoundBox {
-    ghost shown = { shown sound_types ⟦<SoundBox as Declares>⟧.declared };
+    ghost shown = { shown sound_types ⟦<SoundBox as SoundDeclarations>⟧.declared };
 
-    ghost whole = { whole sound_types ⟦<SoundBox as Declares>⟧.declared };
+    ghost whole = { whole sound_types ⟦<SoundBox as SoundDeclarations>⟧.declared };
 
     fn show<K: FieldSink>(&self, view: View, sink: &mut K) -> mp4_shown::Result<()> {
         of_boxes!(each, SoundBox, self, b => b.show(view, sink))

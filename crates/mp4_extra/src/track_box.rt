@@ -115,11 +115,11 @@ impl TryClone for TrackBox {
 }
 
 /// For the prover: the declarations of all types.
-trait Declares {
+pub(crate) trait TrackDeclarations {
     ghost declared: { Declarations track_types };
 }
 
-impl Declares for TrackBox {
+impl TrackDeclarations for TrackBox {
     ghost declared = { elim [
       | types.DataBox ↦ valid_as ⟦<Data as Described>⟧.declaration refl
       | types.ElngBox ↦ valid_as ⟦<Elng as Described>⟧.declaration refl
@@ -143,7 +143,7 @@ impl Declares for TrackBox {
 /// Reads a box of type `of` after its header, like `BoxEnum::read`. The header has this `size`.
 fn read_of(of: TrackType, alloc: Global, reader: &mut ByteCursor, size: u64) -> Result<TrackBox>
     requires after_header { 8 ≤ reader.old.position }
-    ensures answer { Answers result (reading_known (Is (kind_of track_types ⟦<TrackBox as Declares>⟧.declared of))
+    ensures answer { Answers result (reading_known (Is (kind_of track_types ⟦<TrackBox as TrackDeclarations>⟧.declared of))
         reader.old.bytes.now (reader.old.position - 8) size) }
     ensures moved { OnOk result (reader.new.position ≡ reader.old.position - 8 + max 0 size) }
     ensures kept { OnErr result (reader.new.position ≡ reader.old.position) }
@@ -153,11 +153,11 @@ fn read_of(of: TrackType, alloc: Global, reader: &mut ByteCursor, size: u64) -> 
 }
 
 impl BoxEnum for TrackBox {
-    ghost kinds = { kinds track_types ⟦<TrackBox as Declares>⟧.declared };
+    ghost kinds = { kinds track_types ⟦<TrackBox as TrackDeclarations>⟧.declared };
 
-    ghost inside = { inside track_types ⟦<TrackBox as Declares>⟧.declared };
+    ghost inside = { inside track_types ⟦<TrackBox as TrackDeclarations>⟧.declared };
 
-    ghost members = { members track_types track_laws ⟦<TrackBox as Declares>⟧.declared };
+    ghost members = { members track_types track_laws ⟦<TrackBox as TrackDeclarations>⟧.declared };
 
     fn holds(name: BoxType) -> bool {
         type_of(u32::from(name)).is_some()
@@ -174,19 +174,19 @@ impl BoxEnum for TrackBox {
         of_boxes!(each, TrackBox, self, b => visit_declared::<Q, _>(b, out))
     }
 
-    ghost named = { named track_types track_laws ⟦<TrackBox as Declares>⟧.declared };
+    ghost named = { named track_types track_laws ⟦<TrackBox as TrackDeclarations>⟧.declared };
 }
 
 /// The code identifies the type of a box.
 impl CodedEnum for TrackBox {
-    ghost coded = { by_code track_types track_laws ⟦<TrackBox as Declares>⟧.declared };
+    ghost coded = { by_code track_types track_laws ⟦<TrackBox as TrackDeclarations>⟧.declared };
 }
 
 /// Shows the fields of the box inside.
 impl HasFields for TrackBox {
-    ghost shown = { shown track_types ⟦<TrackBox as Declares>⟧.declared };
+    ghost shown = { shown track_types ⟦<TrackBox as TrackDeclarations>⟧.declared };
 
-    ghost whole = { whole track_types ⟦<TrackBox as Declares>⟧.declared };
+    ghost whole = { whole track_types ⟦<TrackBox as TrackDeclarations>⟧.declared };
 
     fn show<K: FieldSink>(&self, view: View, sink: &mut K) -> mp4_shown::Result<()> {
         of_boxes!(each, TrackBox, self, b => b.show(view, sink))

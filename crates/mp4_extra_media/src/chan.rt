@@ -1,10 +1,13 @@
 //! The audio channel layout box.
 
+ghost use Rattle.mp4_extra_media.specs.ShownChannels.{shown_by, whole_by};
 ghost use Rattle.mp4_extra_media.specs.declared.chan.TheConstants.{NAMES, WIDTHS};
 ghost use Rattle.mp4_frame.specs.declared.codes.TheConstants as codes;
 ghost use Rattle.mp4_declared.specs.OwnBox.{layout_of};
 ghost use Rattle.mp4_declared.specs.Layout.{packed, fields_of};
+ghost use Rattle.mp4_shown.specs.Hands.{Hands};
 ghost use Rattle.std.proofs.Common.{refl, lit<};
+ghost use Rattle.std.specs.Prelude.{OnOk};
 
 use mp4_declared::declaring::*;
 use mp4_frame::{Result, codes};
@@ -207,15 +210,35 @@ const NAMES: <ChanShape as NamedShape>::Names = names_of!(
     )
 );
 
-impl HasFields for Chan {
-    ghost shown = { λ view b. ⟦<ChanShape as NamedShape>⟧.shown NAMES view (⟦<Chan as DeclaredBox>⟧.layout.content b) };
+/// The type of the names.
+type ChanNames = <ChanShape as NamedShape>::Names;
 
-    ghost whole = { λ view b. ⟦<ChanShape as NamedShape>⟧.whole NAMES view (⟦<Chan as DeclaredBox>⟧.layout.content b) };
+/// Hands the fields of a box to a sink, under these names. They are a parameter, since the prover would compute with the
+/// names of all layouts and channels.
+#[tactic(auto, unfolding(crate::specs::ShownChannels::shown_by))]
+fn show_by<K: FieldSink>(
+    names: ChanNames,
+    view: View,
+    chan: &Chan,
+    sink: &mut K,
+) -> mp4_shown::Result<()>
+    ensures { OnOk result (Hands K.trace K.after sink.old (shown_by ⟦<ChanShape as NamedShape>⟧.shown
+        (⟦<ChanShape as NamedShape>⟧.seen names.entry) view (⟦<Chan as DeclaredBox>⟧.layout.content chan.now)) sink.new) }
+{
+    let parts = parts_of!(chan => version, flags, channel_layout_tag, channel_bitmap,
+        channel_descriptions.as_slice());
+    ChanShape::show(names, view, parts, sink)
+}
+
+impl HasFields for Chan {
+    ghost shown = { λ view b. shown_by ⟦<ChanShape as NamedShape>⟧.shown NAMES view
+        (⟦<Chan as DeclaredBox>⟧.layout.content b) };
+
+    ghost whole = { λ view b. whole_by ⟦<ChanShape as NamedShape>⟧.shown ⟦<ChanShape as NamedShape>⟧.whole NAMES view
+        (⟦<Chan as DeclaredBox>⟧.layout.content b) };
 
     fn show<K: FieldSink>(&self, view: View, sink: &mut K) -> mp4_shown::Result<()> {
-        let parts = parts_of!(self => version, flags, channel_layout_tag, channel_bitmap,
-            channel_descriptions.as_slice());
-        ChanShape::show(NAMES, view, parts, sink)
+        show_by(NAMES, view, self, sink)
     }
 }
 

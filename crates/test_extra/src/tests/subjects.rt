@@ -1,8 +1,8 @@
-//! An `ExtraBox` made of a box by its subject, and taken apart again.
+//! An `ExtraBox` made of a box of its subject, and taken apart again.
 
 use crate::tests::ending_of;
 use mp4_extra::{ExtraBox, Frma, FrmaBox, Pasp, PaspBox, PictureBox, TrackBox};
-use mp4_stream::{Either, FourCC};
+use mp4_stream::FourCC;
 use std::test::Fail;
 
 /// Makes a box of pictures, the first subject.
@@ -11,9 +11,7 @@ fn picture() -> ExtraBox {
         h_spacing: 0x8182_8384,
         v_spacing: 0x8586_8788,
     };
-    ExtraBox::new(Either::First(Either::First(PictureBox::PaspBox(
-        PaspBox::new(pasp),
-    ))))
+    ExtraBox::Picture(PictureBox::PaspBox(PaspBox::new(pasp)))
 }
 
 /// Makes a box of tracks, the last subject.
@@ -21,25 +19,21 @@ fn track() -> ExtraBox {
     let frma = Frma {
         data_format: FourCC { value: *b"avc1" },
     };
-    ExtraBox::new(Either::Second(Either::Second(TrackBox::FrmaBox(
-        FrmaBox::new(frma),
-    ))))
+    ExtraBox::Track(TrackBox::FrmaBox(FrmaBox::new(frma)))
 }
 
 /// Returns whether the box inside is that of `picture`.
 fn is_picture(made: &ExtraBox) -> bool {
-    match &**made {
-        Either::First(Either::First(PictureBox::PaspBox(pasp))) => pasp.v_spacing == 0x8586_8788,
+    match made {
+        ExtraBox::Picture(PictureBox::PaspBox(pasp)) => pasp.v_spacing == 0x8586_8788,
         _ => false,
     }
 }
 
 /// Returns whether the box inside is that of `track`.
-fn is_track(made: ExtraBox) -> bool {
-    match made.into_inside() {
-        Either::Second(Either::Second(TrackBox::FrmaBox(frma))) => {
-            frma.data_format.value == *b"avc1"
-        }
+fn is_track(made: &ExtraBox) -> bool {
+    match made {
+        ExtraBox::Track(TrackBox::FrmaBox(frma)) => frma.data_format.value == *b"avc1",
         _ => false,
     }
 }
@@ -52,6 +46,6 @@ fn boxes_by_subject(rt: HostRuntime) -> Result<(), Fail> {
     assert!(rt; is_picture(&first));
     let last = track();
     assert!(rt; ending_of(alloc, &last) == "ok");
-    assert!(rt; is_track(last));
+    assert!(rt; is_track(&last));
     Ok(())
 }

@@ -1,6 +1,6 @@
 use Rattle.mp4_extra.proofs.EqualTypes.{same_events}
 use Rattle.mp4_extra.specs.PictureBox.{picture_types}
-use Rattle.mp4_extra.specs.contracts.picture_box.PictureBoxDeclares.TheImpl.{ghosts}
+use Rattle.mp4_extra.specs.contracts.picture_box.PictureBoxPictureDeclarations.TheImpl.{ghosts}
 use Rattle.mp4_extra.proofs.picture_box.PictureBoxHasFields.show.Goals as goal
 
 pub returns-in-AuxcBox : goal.returns-in-AuxcBox

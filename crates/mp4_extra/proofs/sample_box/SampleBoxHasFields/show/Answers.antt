@@ -1,6 +1,6 @@
 use Rattle.mp4_extra.proofs.EqualTypes.{same_events}
 use Rattle.mp4_extra.specs.SampleBox.{sample_types}
-use Rattle.mp4_extra.specs.contracts.sample_box.SampleBoxDeclares.TheImpl.{ghosts}
+use Rattle.mp4_extra.specs.contracts.sample_box.SampleBoxSampleDeclarations.TheImpl.{ghosts}
 use Rattle.mp4_extra.proofs.sample_box.SampleBoxHasFields.show.Goals as goal
 
 pub returns-in-CslgBox : goal.returns-in-CslgBox

@@ -1,6 +1,6 @@
 use Rattle.mp4_extra.proofs.EqualTypes.{same_events}
 use Rattle.mp4_extra.specs.SoundBox.{sound_types}
-use Rattle.mp4_extra.specs.contracts.sound_box.SoundBoxDeclares.TheImpl.{ghosts}
+use Rattle.mp4_extra.specs.contracts.sound_box.SoundBoxSoundDeclarations.TheImpl.{ghosts}
 use Rattle.mp4_extra.proofs.sound_box.SoundBoxHasFields.show.Goals as goal
 
 pub returns-in-AlacBox : goal.returns-in-AlacBox

@@ -1,6 +1,6 @@
 use Rattle.mp4_extra.proofs.EqualTypes.{same_events}
 use Rattle.mp4_extra.specs.TrackBox.{track_types}
-use Rattle.mp4_extra.specs.contracts.track_box.TrackBoxDeclares.TheImpl.{ghosts}
+use Rattle.mp4_extra.specs.contracts.track_box.TrackBoxTrackDeclarations.TheImpl.{ghosts}
 use Rattle.mp4_extra.proofs.track_box.TrackBoxHasFields.show.Goals as goal
 
 pub returns-in-DataBox : goal.returns-in-DataBox
