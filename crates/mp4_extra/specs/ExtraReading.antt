@@ -3,7 +3,7 @@ use Rattle.std.proofs.Common.{◌≡◌, ℕ, Bool, true, false, ◌||◌, if◌
 use Rattle.std.proofs.Common.{refl, ap, ◌∙◌}
 use Rattle.mp4_frame.specs.BoxType.{code_of}
 use Rattle.mp4_frame.specs.declared.box_type.BoxType.{BoxType}
-use Rattle.mp4_frame.specs.Members.{Known, is_known, reading_known}
+use Rattle.mp4_frame.specs.Members.{is_known, reading_known}
 use Rattle.mp4_frame.specs.Reading.{Fault, Reading, and_then, done, map_reading, reading}
 use Rattle.mp4_extra.specs.Catalogue.{Catalogue, Declarations, known_as, kinds, reads_of}
 use Rattle.mp4_extra.specs.ExtraBox.{ExtraType, OfPicture, OfSound, OfSample, OfTrack, first_of, extra_types}
