@@ -527,7 +527,7 @@ def box_in(source):
     else:
         shape, names = re.search(
             rf"impl HasFields for {name} \{{ ghost shown = "
-            r"\{ λ view b\. ⟦<(\w+) as NamedShape>⟧\.shown (\w+) view",
+            r"\{ λ view b\. (?:shown_by )?⟦<(\w+) as NamedShape>⟧\.shown (\w+) view",
             source.text).groups()
         fields = walk.fields(source.types[shape], source.constant(names))
     alias = re.search(rf"pub type (\w+) = (?:Declared|Checked)<{name}>;", source.text)[1]
