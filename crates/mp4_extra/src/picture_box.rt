@@ -147,7 +147,8 @@ impl PictureDeclarations for PictureBox {
 /// Reads a box of type `of` after its header, like `BoxEnum::read`. The header has this `size`.
 fn read_of(of: PictureType, alloc: Global, reader: &mut ByteCursor, size: u64) -> Result<PictureBox>
     requires after_header { 8 ≤ reader.old.position }
-    ensures answer { Answers result (reading_known (Is (kind_of picture_types ⟦<PictureBox as PictureDeclarations>⟧.declared of))
+    ensures answer { Answers result
+        (reading_known (Is (kind_of picture_types ⟦<PictureBox as PictureDeclarations>⟧.declared of))
         reader.old.bytes.now (reader.old.position - 8) size) }
     ensures moved { OnOk result (reader.new.position ≡ reader.old.position - 8 + max 0 size) }
     ensures kept { OnErr result (reader.new.position ≡ reader.old.position) }

@@ -143,7 +143,8 @@ impl SampleDeclarations for SampleBox {
 /// Reads a box of type `of` after its header, like `BoxEnum::read`. The header has this `size`.
 fn read_of(of: SampleType, alloc: Global, reader: &mut ByteCursor, size: u64) -> Result<SampleBox>
     requires after_header { 8 ≤ reader.old.position }
-    ensures answer { Answers result (reading_known (Is (kind_of sample_types ⟦<SampleBox as SampleDeclarations>⟧.declared of))
+    ensures answer { Answers result
+        (reading_known (Is (kind_of sample_types ⟦<SampleBox as SampleDeclarations>⟧.declared of))
         reader.old.bytes.now (reader.old.position - 8) size) }
     ensures moved { OnOk result (reader.new.position ≡ reader.old.position - 8 + max 0 size) }
     ensures kept { OnErr result (reader.new.position ≡ reader.old.position) }

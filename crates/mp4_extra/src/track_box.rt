@@ -143,7 +143,8 @@ impl TrackDeclarations for TrackBox {
 /// Reads a box of type `of` after its header, like `BoxEnum::read`. The header has this `size`.
 fn read_of(of: TrackType, alloc: Global, reader: &mut ByteCursor, size: u64) -> Result<TrackBox>
     requires after_header { 8 ≤ reader.old.position }
-    ensures answer { Answers result (reading_known (Is (kind_of track_types ⟦<TrackBox as TrackDeclarations>⟧.declared of))
+    ensures answer { Answers result
+        (reading_known (Is (kind_of track_types ⟦<TrackBox as TrackDeclarations>⟧.declared of))
         reader.old.bytes.now (reader.old.position - 8) size) }
     ensures moved { OnOk result (reader.new.position ≡ reader.old.position - 8 + max 0 size) }
     ensures kept { OnErr result (reader.new.position ≡ reader.old.position) }

@@ -213,8 +213,8 @@ const NAMES: <ChanShape as NamedShape>::Names = names_of!(
 /// The type of the names.
 type ChanNames = <ChanShape as NamedShape>::Names;
 
-/// Hands the fields of a box to a sink, under these names. They are a parameter, since the prover would compute with the
-/// names of all layouts and channels.
+/// Hands the fields of a box to a sink, under these names. They are a parameter, since the prover would compute with
+/// the names of all layouts and channels.
 #[tactic(auto, unfolding(crate::specs::ShownChannels::shown_by))]
 fn show_by<K: FieldSink>(
     names: ChanNames,
@@ -223,7 +223,8 @@ fn show_by<K: FieldSink>(
     sink: &mut K,
 ) -> mp4_shown::Result<()>
     ensures { OnOk result (Hands K.trace K.after sink.old (shown_by ⟦<ChanShape as NamedShape>⟧.shown
-        (⟦<ChanShape as NamedShape>⟧.seen names.entry) view (⟦<Chan as DeclaredBox>⟧.layout.content chan.now)) sink.new) }
+        (⟦<ChanShape as NamedShape>⟧.seen names.entry) view (⟦<Chan as DeclaredBox>⟧.layout.content chan.now))
+        sink.new) }
 {
     let parts = parts_of!(chan => version, flags, channel_layout_tag, channel_bitmap,
         channel_descriptions.as_slice());
