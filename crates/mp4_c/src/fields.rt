@@ -24,7 +24,6 @@ pub const UNKNOWN_BOX: u32 = 102;
 
 /// Puts the fields of `value` into `sink`. Those of an `hdlr` and of a `url ` are read from `content`, the code and the
 /// content of the box, since the codec keeps their texts only if they are UTF-8.
-#[tactic(auto, using(mp4_show::proofs::Handed::kept_members))]
 fn put_shown<B: HasFields, K: FieldSink>(
     value: &B,
     content: Option<(u32, &[u8])>,
