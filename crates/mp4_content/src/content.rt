@@ -12,10 +12,9 @@ use crate::kind::{Kind, kind_of};
 use crate::shown::Shown;
 use mp4_io::{Failure, or_read};
 use mp4_show::{
-    Result, put_entry, put_full_head, put_handler, put_list_head, put_reference, put_sound,
-    put_terminator, put_usertype, put_visual,
+    BoxFields, Result, put_entry, put_fields, put_full_head, put_handler, put_list_head,
+    put_reference, put_sound, put_terminator, put_usertype, put_visual,
 };
-use mp4_show_extra::HasFields;
 use mp4_shown::FieldSink;
 use mp4_stream::{BoxHeader, BoxType, ByteCursor, Error};
 use mp4_walk::{BoxWalk, Source, TreeBox};
@@ -262,7 +261,7 @@ fn put_front<K: FieldSink>(kind: Kind, bytes: &[u8], is_quicktime: bool, sink: &
 
 /// Sends the fields that were read to `sink`.
 #[tactic(auto, using(mp4_show::proofs::Handed::no_members))]
-pub fn put_content<B: HasFields + Drop, K: FieldSink>(
+pub fn put_content<B: BoxFields + Drop, K: FieldSink>(
     content: &Content<B>,
     is_quicktime: bool,
     sink: &mut K,
@@ -270,7 +269,7 @@ pub fn put_content<B: HasFields + Drop, K: FieldSink>(
     ensures whole { OnOk result (HandsMembers K.trace K.after sink.old sink.new) }
 {
     match content {
-        Content::Known(value) => value.put_fields(sink),
+        Content::Known(value) => put_fields(value, sink),
         Content::Front(kind, bytes) => put_front(*kind, bytes, is_quicktime, sink),
         _ => Ok(()),
     }

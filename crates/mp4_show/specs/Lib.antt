@@ -1,5 +1,4 @@
 pub mod Escaped
-pub mod Nesting
 pub mod Language
 pub mod Lists
 pub mod Edits

@@ -2,8 +2,8 @@
 #![tactic(auto)]
 
 mod box_fields;
-mod brief;
 mod code;
+mod either;
 mod entries_in;
 mod escape;
 mod escaped_json;
@@ -17,14 +17,12 @@ mod number_text;
 mod placed;
 mod put_parts;
 mod shapes;
-mod sink;
 mod sound_front;
 mod text_sink;
 mod value;
 mod value_text;
 
 pub use box_fields::{BoxFields, put_fields};
-pub use brief::{put_data, put_data_type, put_full, put_if_some};
 pub use code::push_code;
 pub use escape::{is_escaped, push_escaped, push_escaped_bytes};
 pub use escaped_json::json_text;
@@ -35,7 +33,5 @@ pub use fronts::{
 pub use look::Look;
 pub use mp4_shown::{Result, Value};
 pub use number_text::push_number;
-pub use sink::{FieldSink, put_all};
 pub use sound_front::put_sound;
 pub use text_sink::{TextSink, columns, push_colored};
-pub use value::number;

@@ -1,16 +1,8 @@
 //! Values of fields as the boxes of the codec have them.
 
 ghost use Rattle.std.specs.Prelude.{◌≡◌};
-ghost use Rattle.mp4_shown.specs.declared.value.Value.TheVariants as values;
 
-use mp4_shown::{Matrix, Value};
-
-/// Returns a whole number of at most 64 bits.
-pub fn number<N: Into<u64>>(number: N) -> Value<'static>
-    ensures { (n : _) × (N.converts number n) × (result ≡ values.Number n) }
-{
-    Value::Number(number.into())
-}
+use mp4_shown::Matrix;
 
 /// Returns the transformation `m` as a value has it.
 pub(crate) fn matrix_of(m: &mp4_stream::Matrix) -> Matrix

@@ -1,7 +1,7 @@
 //! The fields of sample entries of video and subtitles, and of what configures their decoders.
 
-ghost use Rattle.mp4_show.specs.declared.fields.entries.TheConstants.{AVC1, AVCC, COLOR, HEV1, HVCC, TX3G, VP09, VP09_REST};
-ghost use Rattle.mp4_show.specs.declared.fields.entries.TheConstants.{VPCC, VPCC_REST};
+ghost use Rattle.mp4_show.specs.declared.fields.entries.TheConstants.{AVC1, AVCC, COLOR, HEV1, HVCC, TX3G, VP09};
+ghost use Rattle.mp4_show.specs.declared.fields.entries.TheConstants.{VP09_REST, VPCC, VPCC_REST};
 ghost use Rattle.std.specs.Prelude.{◌++◌};
 ghost use Rattle.mp4_shown.specs.Lists.{bytes_item};
 ghost use Rattle.mp4_shown.specs.Members.{members_append, whole_bytes_item};
@@ -40,13 +40,13 @@ type AvccShown = (
 
 /// The names of its fields.
 const AVCC: <AvccShown as NamedShape>::Names = names_of!(
-    number!("configuration_version"),
-    number!("avc_profile_indication"),
+    number!("configurationVersion"),
+    number!("AVCProfileIndication"),
     number!("profile_compatibility"),
-    number!("avc_level_indication"),
-    number!("length_size_minus_one"),
-    "sequence_parameter_sets",
-    "picture_parameter_sets"
+    number!("AVCLevelIndication"),
+    number!("lengthSizeMinusOne"),
+    "sequenceParameterSetNALUnit",
+    "pictureParameterSetNALUnit"
 );
 
 impl BoxFields for AvcCBox {
@@ -92,7 +92,7 @@ impl BoxFields for AvcCBox {
 type HvccShown = Last<U8>;
 
 /// The names of its fields.
-const HVCC: <HvccShown as NamedShape>::Names = names_of!(number!("configuration_version"));
+const HVCC: <HvccShown as NamedShape>::Names = names_of!(number!("configurationVersion"));
 
 impl BoxFields for HvcCBox {
     ghost shown = { λ view b. ⟦<HvccShown as NamedShape>⟧.shown HVCC view (b.configuration_version, tt) };
@@ -113,8 +113,8 @@ const VPCC: <VpccFront as NamedShape>::Names = names_of!(
     FLAGS,
     number!("profile"),
     number!("level"),
-    number!("bit_depth"),
-    number!("chroma_subsampling")
+    number!("bitDepth"),
+    number!("chromaSubsampling")
 );
 
 /// The fields after the subsampling.
@@ -122,11 +122,11 @@ type VpccRest = (FlagBit, U8, U8, U8, Last<U16>);
 
 /// The names of its fields.
 const VPCC_REST: <VpccRest as NamedShape>::Names = names_of!(
-    number!("video_full_range_flag"),
-    number!("color_primaries"),
-    number!("transfer_characteristics"),
-    number!("matrix_coefficients"),
-    number!("codec_initialization_data_size")
+    number!("videoFullRangeFlag"),
+    number!("colourPrimaries"),
+    number!("transferCharacteristics"),
+    number!("matrixCoefficients"),
+    number!("codecInitializationDataSize")
 );
 
 impl BoxFields for VpccBox {
@@ -206,7 +206,7 @@ const AVC1: <Avc1Shown as NamedShape>::Names = names_of!(
     number!("vertresolution", Fixed(16)),
     number!("frame_count"),
     number!("depth"),
-    ("avcc", ())
+    ("avcC", ())
 );
 
 impl BoxFields for Avc1Box {
@@ -277,7 +277,7 @@ const HEV1: <Hev1Shown as NamedShape>::Names = names_of!(
     number!("vertresolution", Fixed(16)),
     number!("frame_count"),
     number!("depth"),
-    ("hvcc", ())
+    ("hvcC", ())
 );
 
 impl BoxFields for Hev1Box {
@@ -362,7 +362,7 @@ const VP09_REST: <Vp09Rest as NamedShape>::Names = names_of!(
     run!("compressorname", Bytes),
     number!("depth"),
     number!("end_code"),
-    ("vpcc", ())
+    ("vpcC", ())
 );
 
 impl BoxFields for Vp09Box {
@@ -479,12 +479,12 @@ type Tx3gShown = (
 /// The names of its fields.
 const TX3G: <Tx3gShown as NamedShape>::Names = names_of!(
     number!("data_reference_index"),
-    number!("display_flags", Flags(8)),
-    number!("horizontal_justification"),
-    number!("vertical_justification"),
-    ("bg_color_rgba", ()),
-    "box_record",
-    run!("style_record", Bytes)
+    number!("displayFlags", Flags(8)),
+    number!("horizontal-justification"),
+    number!("vertical-justification"),
+    ("background-color-rgba", ()),
+    "default-text-box",
+    run!("default-style", Bytes)
 );
 
 impl BoxFields for Tx3gBox {

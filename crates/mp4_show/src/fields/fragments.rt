@@ -55,7 +55,7 @@ type TrexShown = Full<256, (U32, U32, U32, U32, Last<U32>)>;
 const TREX: <TrexShown as NamedShape>::Names = names_of!(
     VERSION,
     FLAGS,
-    number!("track_id"),
+    number!("track_ID"),
     number!("default_sample_description_index"),
     number!("default_sample_duration"),
     number!("default_sample_size"),
@@ -134,7 +134,7 @@ type TfdtShown = Full<256, Last<U64>>;
 const TFDT: <TfdtShown as NamedShape>::Names = names_of!(
     VERSION,
     FLAGS,
-    number!("base_media_decode_time")
+    number!("baseMediaDecodeTime")
 );
 
 impl BoxFields for TfdtBox {
@@ -166,7 +166,7 @@ type TfhdShown = Full<
 const TFHD: <TfhdShown as NamedShape>::Names = names_of!(
     VERSION,
     number!("flags", Flags(6), TRACK_FRAGMENT),
-    number!("track_id"),
+    number!("track_ID"),
     number!("base_data_offset"),
     number!("sample_description_index"),
     number!("default_sample_duration"),
@@ -304,10 +304,10 @@ type ColumnsShown = (
 
 /// Their names.
 const COLUMNS: <ColumnsShown as NamedShape>::Names = names_of!(
-    "sample_durations",
-    "sample_sizes",
+    "sample_duration",
+    "sample_size",
     "sample_flags",
-    "sample_cts"
+    "sample_composition_time_offset"
 );
 
 /// Hands the lists of a run to a sink, one after the other.
@@ -341,10 +341,10 @@ type SampleShown = (
 
 /// The names of its fields.
 const SAMPLE: <SampleShown as NamedShape>::Names = names_of!(
-    number!("duration"),
-    number!("size"),
-    number!("flags", Flags(8), SAMPLE_FLAGS),
-    "composition_time_offset"
+    number!("sample_duration"),
+    number!("sample_size"),
+    number!("sample_flags", Flags(8), SAMPLE_FLAGS),
+    "sample_composition_time_offset"
 );
 
 /// Returns the number at a place of a list, if the list has one there.

@@ -1,6 +1,6 @@
 //! The fields of the headers of media, and of references to media data.
 
-ghost use Rattle.mp4_show.specs.declared.fields.media.TheConstants.{COLOR, DINF, DREF, SMHD, URL, VMHD};
+ghost use Rattle.mp4_show.specs.declared.fields.media.TheConstants.{DINF, DREF, SMHD, URL, VMHD};
 
 use crate::box_fields::BoxFields;
 use crate::flag_names::REFERENCE;
@@ -9,50 +9,33 @@ use mp4_declared::{Full, I16, Last, U16, parts_of};
 use mp4_shown::{
     FLAGS, FieldSink, Group, NamedShape, Result, VERSION, View, names_of, number, show_shape,
 };
-use mp4_stream::{DinfBox, DrefBox, RgbColor, SmhdBox, UrlBox, VmhdBox};
-
-/// A colour of 16 bits a component.
-type ColorShown = (U16, U16, Last<U16>);
-
-/// The names of its fields.
-const COLOR: <ColorShown as NamedShape>::Names = names_of!(
-    number!("red"),
-    number!("green"),
-    number!("blue")
-);
-
-impl BoxFields for RgbColor {
-    ghost shown = { λ view b. ⟦<ColorShown as NamedShape>⟧.shown COLOR view (b.red, (b.green, (b.blue, tt))) };
-
-    ghost whole = { λ view b. ⟦<ColorShown as NamedShape>⟧.whole COLOR view (b.red, (b.green, (b.blue, tt))) };
-
-    fn show<K: FieldSink>(&self, view: View, sink: &mut K) -> Result<()> {
-        let parts = parts_of!(self => red, green, blue);
-        show_shape::<ColorShown, _, K>(COLOR, view, parts, sink)
-    }
-}
+use mp4_stream::{DinfBox, DrefBox, SmhdBox, UrlBox, VmhdBox};
 
 /// Video media header (ISO/IEC 14496-12, 12.1.2).
-type VmhdShown = Full<256, (U16, Last<Group<FieldsOf<RgbColor>>>)>;
+type VmhdShown = Full<256, (U16, U16, U16, Last<U16>)>;
 
 /// The names of its fields.
 const VMHD: <VmhdShown as NamedShape>::Names = names_of!(
     VERSION,
     FLAGS,
-    number!("graphics_mode"),
-    ("op_color", ())
+    number!("graphicsmode"),
+    number!("opcolor_red"),
+    number!("opcolor_green"),
+    number!("opcolor_blue")
 );
 
 impl BoxFields for VmhdBox {
     ghost shown = { λ view b. ⟦<VmhdShown as NamedShape>⟧.shown VMHD view
-        (b.version, (b.flags, (b.graphics_mode, (b.op_color, tt)))) };
+        (b.version, (b.flags, (b.graphics_mode, (b.op_color.red, (b.op_color.green, (b.op_color.blue, tt)))))) };
 
     ghost whole = { λ view b. ⟦<VmhdShown as NamedShape>⟧.whole VMHD view
-        (b.version, (b.flags, (b.graphics_mode, (b.op_color, tt)))) };
+        (b.version, (b.flags, (b.graphics_mode, (b.op_color.red, (b.op_color.green, (b.op_color.blue, tt)))))) };
 
     fn show<K: FieldSink>(&self, view: View, sink: &mut K) -> Result<()> {
-        let color = &self.op_color;
-        let parts = parts_of!(self => version, flags, graphics_mode, = color);
+        let red = self.op_color.red;
+        let green = self.op_color.green;
+        let blue = self.op_color.blue;
+        let parts = parts_of!(self => version, flags, graphics_mode, = red, = green, = blue);
         show_shape::<VmhdShown, _, K>(VMHD, view, parts, sink)
     }
 }
@@ -103,7 +86,7 @@ impl BoxFields for UrlBox {
 type DrefShown = Full<256, Last<Optional<Group<FieldsOf<UrlBox>>>>>;
 
 /// The names of its fields.
-const DREF: <DrefShown as NamedShape>::Names = names_of!(VERSION, FLAGS, ("url", ()));
+const DREF: <DrefShown as NamedShape>::Names = names_of!(VERSION, FLAGS, ("url ", ()));
 
 impl BoxFields for DrefBox {
     ghost shown = { λ view b. ⟦<DrefShown as NamedShape>⟧.shown DREF view (b.version, (b.flags, (b.url, tt))) };

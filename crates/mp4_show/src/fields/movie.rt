@@ -48,7 +48,7 @@ const MVHD: <MvhdShown as NamedShape>::Names = names_of!(
     number!("rate", Fixed(16)),
     number!("volume", Fixed(8)),
     "matrix",
-    number!("next_track_id")
+    number!("next_track_ID")
 );
 
 impl BoxFields for MvhdBox {

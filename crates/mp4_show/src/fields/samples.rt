@@ -20,7 +20,7 @@ use mp4_stream::{
 type StcoShown = Full<256, Last<Numbers>>;
 
 /// The names of its fields.
-const STCO: <StcoShown as NamedShape>::Names = names_of!(VERSION, FLAGS, "entries");
+const STCO: <StcoShown as NamedShape>::Names = names_of!(VERSION, FLAGS, "chunk_offset");
 
 impl BoxFields for StcoBox {
     ghost shown = { λ view b. ⟦<StcoShown as NamedShape>⟧.shown STCO view (b.version, (b.flags, (b.entries, tt))) };
@@ -37,7 +37,7 @@ impl BoxFields for StcoBox {
 type Co64Shown = Full<256, Last<WideNumbers>>;
 
 /// The names of its fields.
-const CO64: <Co64Shown as NamedShape>::Names = names_of!(VERSION, FLAGS, "entries");
+const CO64: <Co64Shown as NamedShape>::Names = names_of!(VERSION, FLAGS, "chunk_offset");
 
 impl BoxFields for Co64Box {
     ghost shown = { λ view b. ⟦<Co64Shown as NamedShape>⟧.shown CO64 view (b.version, (b.flags, (b.entries, tt))) };
@@ -54,7 +54,7 @@ impl BoxFields for Co64Box {
 type StssShown = Full<256, Last<Numbers>>;
 
 /// The names of its fields.
-const STSS: <StssShown as NamedShape>::Names = names_of!(VERSION, FLAGS, "entries");
+const STSS: <StssShown as NamedShape>::Names = names_of!(VERSION, FLAGS, "sample_number");
 
 impl BoxFields for StssBox {
     ghost shown = { λ view b. ⟦<StssShown as NamedShape>⟧.shown STSS view (b.version, (b.flags, (b.entries, tt))) };
@@ -76,7 +76,7 @@ const STSZ: <StszShown as NamedShape>::Names = names_of!(
     FLAGS,
     number!("sample_size"),
     number!("sample_count"),
-    "sample_sizes"
+    "entry_size"
 );
 
 impl BoxFields for StszBox {

@@ -18,10 +18,10 @@ type SpecificShown = (U8, U8, Optional<U32>, Last<U8>);
 
 /// The names of its fields.
 const SPECIFIC: <SpecificShown as NamedShape>::Names = names_of!(
-    number!("profile"),
-    number!("freq_index"),
-    number!("sample_rate"),
-    number!("chan_conf")
+    number!("audioObjectType"),
+    number!("samplingFrequencyIndex"),
+    number!("samplingFrequency"),
+    number!("channelConfiguration")
 );
 
 impl BoxFields for DecoderSpecificDescriptor {
@@ -48,13 +48,13 @@ type ConfigShown = (
 
 /// The names of its fields.
 const CONFIG: <ConfigShown as NamedShape>::Names = names_of!(
-    number!("object_type_indication"),
-    number!("stream_type"),
-    number!("up_stream"),
-    number!("buffer_size_db"),
-    number!("max_bitrate"),
-    number!("avg_bitrate"),
-    ("dec_specific", ())
+    number!("objectTypeIndication"),
+    number!("streamType"),
+    number!("upStream"),
+    number!("bufferSizeDB"),
+    number!("maxBitrate"),
+    number!("avgBitrate"),
+    ("decSpecificInfo", ())
 );
 
 impl BoxFields for DecoderConfigDescriptor {
@@ -105,7 +105,7 @@ impl BoxFields for DecoderConfigDescriptor {
 type StreamShown = (U16, Last<Group<FieldsOf<DecoderConfigDescriptor>>>);
 
 /// The names of its fields.
-const STREAM: <StreamShown as NamedShape>::Names = names_of!(number!("es_id"), ("dec_config", ()));
+const STREAM: <StreamShown as NamedShape>::Names = names_of!(number!("ES_ID"), ("decConfigDescr", ()));
 
 impl BoxFields for ESDescriptor {
     ghost shown = { λ view b. ⟦<StreamShown as NamedShape>⟧.shown STREAM view (b.es_id, (b.dec_config, tt)) };
@@ -122,7 +122,7 @@ impl BoxFields for ESDescriptor {
 type EsdsShown = Full<256, Last<Group<FieldsOf<ESDescriptor>>>>;
 
 /// The names of its fields.
-const ESDS: <EsdsShown as NamedShape>::Names = names_of!(VERSION, FLAGS, ("es_desc", ()));
+const ESDS: <EsdsShown as NamedShape>::Names = names_of!(VERSION, FLAGS, ("ES", ()));
 
 impl BoxFields for EsdsBox {
     ghost shown = { λ view b. ⟦<EsdsShown as NamedShape>⟧.shown ESDS view (b.version, (b.flags, (b.es_desc, tt))) };

@@ -27,7 +27,7 @@ const TKHD: <TkhdFront as NamedShape>::Names = names_of!(
     number!("flags", Flags(6), TRACK),
     number!("creation_time", Date),
     number!("modification_time", Date),
-    number!("track_id"),
+    number!("track_ID"),
     number!("duration")
 );
 
@@ -203,7 +203,7 @@ type EditShown = (U64, MediaTime, I16, Last<I16>);
 const EDIT: <EditShown as NamedShape>::Names = names_of!(
     number!("segment_duration"),
     "media_time",
-    number!("media_rate"),
+    number!("media_rate_integer"),
     number!("media_rate_fraction")
 );
 
