@@ -1,9 +1,10 @@
 //! Fields that are read from bytes: those that begin a box that holds boxes, those of sample entries of any code, and
 //! those of a handler and of a reference, with their texts as they are.
 
-ghost use Rattle.std.specs.Prelude.{◌≡◌, ◌≤◌, OnOk, length};
+ghost use Rattle.std.specs.Prelude.{◌≡◌, ◌≤◌, OnOk, drop, length, slice_range};
 ghost use Rattle.mp4_frame.specs.Bytes.{number};
-ghost use Rattle.mp4_show.specs.Fronts.{compressor, handler_name, handler_parts, location, visual_parts};
+ghost use Rattle.mp4_frame.specs.FourCC.{four_cc_of};
+ghost use Rattle.mp4_show.specs.Fronts.{compressor, handler_name, location};
 ghost use Rattle.mp4_show.specs.declared.fields.media.TheConstants.{URL};
 ghost use Rattle.mp4_show.specs.declared.fields.tracks.TheConstants.{HDLR};
 ghost use Rattle.mp4_show.specs.declared.fronts.TheConstants.{ENTRY, FULL_HEAD, LIST, TERMINATOR, USERTYPE, VISUAL};
@@ -95,45 +96,44 @@ const VISUAL: <VisualShown as NamedShape>::Names = names_of!(
     number!("depth")
 );
 
-/// Returns the parts of a sample entry of video that are shown.
-#[tactic(auto, unfolding(crate::specs::Fronts::visual_parts))]
-fn visual_parts(bytes: &[u8]) -> (u16, (u16, (u16, (u32, (u32, (u16, (&[u8], (u16, ()))))))))
+/// Returns the text of the compressor's name in the content of a sample entry of video.
+fn compressor_of(bytes: &[u8]) -> &[u8]
     requires { 78 ≤ length bytes.now }
-    ensures { (
-      result.0,
-      (
-        result.1.0,
-        (
-          result.1.1.0,
-          (
-            result.1.1.1.0,
-            (
-              result.1.1.1.1.0,
-              (
-                result.1.1.1.1.1.0,
-                (result.1.1.1.1.1.1.0.now, (result.1.1.1.1.1.1.1.0, tt)),
-              ),
-            ),
-          ),
-        ),
-      ),
-    ) ≡ visual_parts bytes.now }
+    ensures { result.now ≡ compressor (slice_range bytes.now 42 74) }
 {
-    let name = compressor(&bytes[42..74]);
-    let after = (u16_at(bytes, 40), (name, (u16_at(bytes, 74), ())));
-    let resolutions = (u32_at(bytes, 28), (u32_at(bytes, 32), after));
-    let sizes = (u16_at(bytes, 24), (u16_at(bytes, 26), resolutions));
-    (u16_at(bytes, 6), sizes)
+    compressor(&bytes[42..74])
 }
 
 /// Hands the common fields of a sample entry of video to a sink. They are the first 78 bytes of its content.
 pub fn put_visual<K: FieldSink>(bytes: &[u8], sink: &mut K) -> Result<()>
     requires { 78 ≤ length bytes.now }
     ensures fields { OnOk result (Hands K.trace K.after sink.old (⟦<VisualShown as NamedShape>⟧.shown VISUAL
-        (K.wanted sink.old) (visual_parts bytes.now)) sink.new) }
+        (K.wanted sink.old) (
+          number bytes.now 6 2,
+          (
+            number bytes.now 24 2,
+            (
+              number bytes.now 26 2,
+              (
+                number bytes.now 28 4,
+                (
+                  number bytes.now 32 4,
+                  (
+                    number bytes.now 40 2,
+                    (compressor (slice_range bytes.now 42 74), (number bytes.now 74 2, tt)),
+                  ),
+                ),
+              ),
+            ),
+          ),
+        )) sink.new) }
     ensures whole { OnOk result (HandsMembers K.trace K.after sink.old sink.new) }
 {
-    put_parts::<VisualShown, _, K>(VISUAL, visual_parts(bytes), sink)
+    let name = compressor_of(bytes);
+    let after = (u16_at(bytes, 40), (name, (u16_at(bytes, 74), ())));
+    let resolutions = (u32_at(bytes, 28), (u32_at(bytes, 32), after));
+    let sizes = (u16_at(bytes, 24), (u16_at(bytes, 26), resolutions));
+    put_parts::<VisualShown, _, K>(VISUAL, (u16_at(bytes, 6), sizes), sink)
 }
 
 /// Returns `bytes` without a last byte of 0.
@@ -165,15 +165,12 @@ fn handler_name(bytes: &[u8]) -> &[u8]
     }
 }
 
-/// Returns the parts of a handler that are shown.
-#[tactic(auto, unfolding(crate::specs::Fronts::handler_parts))]
-fn handler_parts(bytes: &[u8]) -> (u8, (u32, (FourCC, (&[u8], ()))))
+/// Returns the name in the content of a handler.
+fn name_of(bytes: &[u8]) -> &[u8]
     requires { 25 ≤ length bytes.now }
-    ensures { (result.0, (result.1.0, (result.1.1.0, (result.1.1.1.0.now, tt)))) ≡ handler_parts bytes.now }
+    ensures { result.now ≡ handler_name (drop 24 bytes.now) }
 {
-    let name = handler_name(&bytes[24..]);
-    let handler_type = FourCC::from(u32_at(bytes, 8));
-    (u8_at(bytes, 0), (u24_at(bytes, 1), (handler_type, (name, ()))))
+    handler_name(&bytes[24..])
 }
 
 /// Hands the fields of a handler to a sink (ISO/IEC 14496-12, 8.4.3; QuickTime File Format, "Handler reference atoms"),
@@ -181,10 +178,22 @@ fn handler_parts(bytes: &[u8]) -> (u8, (u32, (FourCC, (&[u8], ()))))
 pub fn put_handler<K: FieldSink>(bytes: &[u8], sink: &mut K) -> Result<()>
     requires { 25 ≤ length bytes.now }
     ensures fields { OnOk result (Hands K.trace K.after sink.old (⟦<HdlrShown as NamedShape>⟧.shown HDLR
-        (K.wanted sink.old) (handler_parts bytes.now)) sink.new) }
+        (K.wanted sink.old) (
+          number bytes.now 0 1,
+          (
+            number bytes.now 1 3,
+            (four_cc_of (number bytes.now 8 4), (handler_name (drop 24 bytes.now), tt)),
+          ),
+        )) sink.new) }
     ensures whole { OnOk result (HandsMembers K.trace K.after sink.old sink.new) }
 {
-    put_parts::<HdlrShown, _, K>(HDLR, handler_parts(bytes), sink)
+    let name = name_of(bytes);
+    let handler_type = FourCC::from(u32_at(bytes, 8));
+    let parts = (
+        u8_at(bytes, 0),
+        (u24_at(bytes, 1), (handler_type, (name, ()))),
+    );
+    put_parts::<HdlrShown, _, K>(HDLR, parts, sink)
 }
 
 /// Returns the location in the content of a `url `: the bytes after version and flags, up to the last byte, which ends
