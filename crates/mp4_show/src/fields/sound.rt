@@ -105,7 +105,10 @@ impl BoxFields for DecoderConfigDescriptor {
 type StreamShown = (U16, Last<Group<FieldsOf<DecoderConfigDescriptor>>>);
 
 /// The names of its fields.
-const STREAM: <StreamShown as NamedShape>::Names = names_of!(number!("ES_ID"), ("decConfigDescr", ()));
+const STREAM: <StreamShown as NamedShape>::Names = names_of!(
+    number!("ES_ID"),
+    ("decConfigDescr", ())
+);
 
 impl BoxFields for ESDescriptor {
     ghost shown = { λ view b. ⟦<StreamShown as NamedShape>⟧.shown STREAM view (b.es_id, (b.dec_config, tt)) };
