@@ -29,8 +29,10 @@ entry {V} code wrap = record { code = code; Fields = V; wrap = wrap }
 
 abbrev pub entry_of : ExtraType → Entry
 entry_of types.AlacBox = entry codes.ALAC boxes.AlacBox
+entry_of types.AlisBox = entry codes.ALIS boxes.AlisBox
 entry_of types.AuxcBox = entry codes.AUXC boxes.AuxcBox
 entry_of types.Av1cBox = entry codes.AV1C boxes.Av1cBox
+entry_of types.AvccBox = entry codes.AVCC boxes.AvccBox
 entry_of types.BtrtBox = entry codes.BTRT boxes.BtrtBox
 entry_of types.ChanBox = entry codes.CHAN boxes.ChanBox
 entry_of types.ChnlBox = entry codes.CHNL boxes.ChnlBox
@@ -50,6 +52,7 @@ entry_of types.EndaBox = entry codes.ENDA boxes.EndaBox
 entry_of types.FielBox = entry codes.FIEL boxes.FielBox
 entry_of types.FrmaBox = entry codes.FRMA boxes.FrmaBox
 entry_of types.GminBox = entry codes.GMIN boxes.GminBox
+entry_of types.HdlrBox = entry codes.HDLR boxes.HdlrBox
 entry_of types.HmhdBox = entry codes.HMHD boxes.HmhdBox
 entry_of types.HvccBox = entry codes.HVCC boxes.HvccBox
 entry_of types.IlocBox = entry codes.ILOC boxes.IlocBox
@@ -92,6 +95,8 @@ entry_of types.TencBox = entry codes.TENC boxes.TencBox
 entry_of types.TextBox = entry codes.TEXT boxes.TextBox
 entry_of types.TfraBox = entry codes.TFRA boxes.TfraBox
 entry_of types.TrefBox = entry codes.TREF boxes.TrefBox
+entry_of types.UrnBox = entry codes.URN boxes.UrnBox
+entry_of types.VpccBox = entry codes.VPCC boxes.VpccBox
 entry_of types.VvccBox = entry codes.VVCC boxes.VvccBox
 entry_of types.WvttBox = entry codes.WVTT boxes.WvttBox
 
@@ -107,8 +112,10 @@ wrap t = (entry_of t).wrap
 -- the type of a box and its fields
 abbrev pub opened : ExtraBox → (t : ExtraType) × FieldsOf t
 opened (boxes.AlacBox fields) = (types.AlacBox, fields)
+opened (boxes.AlisBox fields) = (types.AlisBox, fields)
 opened (boxes.AuxcBox fields) = (types.AuxcBox, fields)
 opened (boxes.Av1cBox fields) = (types.Av1cBox, fields)
+opened (boxes.AvccBox fields) = (types.AvccBox, fields)
 opened (boxes.BtrtBox fields) = (types.BtrtBox, fields)
 opened (boxes.ChanBox fields) = (types.ChanBox, fields)
 opened (boxes.ChnlBox fields) = (types.ChnlBox, fields)
@@ -128,6 +135,7 @@ opened (boxes.EndaBox fields) = (types.EndaBox, fields)
 opened (boxes.FielBox fields) = (types.FielBox, fields)
 opened (boxes.FrmaBox fields) = (types.FrmaBox, fields)
 opened (boxes.GminBox fields) = (types.GminBox, fields)
+opened (boxes.HdlrBox fields) = (types.HdlrBox, fields)
 opened (boxes.HmhdBox fields) = (types.HmhdBox, fields)
 opened (boxes.HvccBox fields) = (types.HvccBox, fields)
 opened (boxes.IlocBox fields) = (types.IlocBox, fields)
@@ -170,6 +178,8 @@ opened (boxes.TencBox fields) = (types.TencBox, fields)
 opened (boxes.TextBox fields) = (types.TextBox, fields)
 opened (boxes.TfraBox fields) = (types.TfraBox, fields)
 opened (boxes.TrefBox fields) = (types.TrefBox, fields)
+opened (boxes.UrnBox fields) = (types.UrnBox, fields)
+opened (boxes.VpccBox fields) = (types.VpccBox, fields)
 opened (boxes.VvccBox fields) = (types.VvccBox, fields)
 opened (boxes.WvttBox fields) = (types.WvttBox, fields)
 

@@ -28,8 +28,10 @@ macro_rules! of_boxes {
         $go! {
             [
                 AlacBox ALAC,
+                AlisBox ALIS,
                 AuxcBox AUXC,
                 Av1cBox AV1C,
+                AvccBox AVCC,
                 BtrtBox BTRT,
                 ChanBox CHAN,
                 ChnlBox CHNL,
@@ -49,6 +51,7 @@ macro_rules! of_boxes {
                 FielBox FIEL,
                 FrmaBox FRMA,
                 GminBox GMIN,
+                HdlrBox HDLR,
                 HmhdBox HMHD,
                 HvccBox HVCC,
                 IlocBox ILOC,
@@ -91,6 +94,8 @@ macro_rules! of_boxes {
                 TextBox TEXT,
                 TfraBox TFRA,
                 TrefBox TREF,
+                UrnBox URN,
+                VpccBox VPCC,
                 VvccBox VVCC,
                 WvttBox WVTT
             ]
@@ -147,8 +152,10 @@ macro_rules! print_extra {
 #[derive(Drop, PartialEq, Eq)]
 pub enum ExtraBox {
     AlacBox(AlacBox),
+    AlisBox(AlisBox),
     AuxcBox(AuxcBox),
     Av1cBox(Av1cBox),
+    AvccBox(AvccBox),
     BtrtBox(BtrtBox),
     ChanBox(ChanBox),
     ChnlBox(ChnlBox),
@@ -168,6 +175,7 @@ pub enum ExtraBox {
     FielBox(FielBox),
     FrmaBox(FrmaBox),
     GminBox(GminBox),
+    HdlrBox(HdlrBox),
     HmhdBox(HmhdBox),
     HvccBox(HvccBox),
     IlocBox(IlocBox),
@@ -210,6 +218,8 @@ pub enum ExtraBox {
     TextBox(TextBox),
     TfraBox(TfraBox),
     TrefBox(TrefBox),
+    UrnBox(UrnBox),
+    VpccBox(VpccBox),
     VvccBox(VvccBox),
     WvttBox(WvttBox),
 }
@@ -218,8 +228,10 @@ pub enum ExtraBox {
 #[derive(Clone, Copy)]
 pub enum ExtraType {
     AlacBox,
+    AlisBox,
     AuxcBox,
     Av1cBox,
+    AvccBox,
     BtrtBox,
     ChanBox,
     ChnlBox,
@@ -239,6 +251,7 @@ pub enum ExtraType {
     FielBox,
     FrmaBox,
     GminBox,
+    HdlrBox,
     HmhdBox,
     HvccBox,
     IlocBox,
@@ -281,6 +294,8 @@ pub enum ExtraType {
     TextBox,
     TfraBox,
     TrefBox,
+    UrnBox,
+    VpccBox,
     VvccBox,
     WvttBox,
 }
@@ -338,8 +353,10 @@ trait Declares {
 impl Declares for ExtraBox {
     ghost declared = { elim [
       | types.AlacBox ↦ valid_as ⟦<Alac as Described>⟧.declaration refl
+      | types.AlisBox ↦ valid_as ⟦<Alis as Described>⟧.declaration refl
       | types.AuxcBox ↦ valid_as ⟦<Auxc as Described>⟧.declaration refl
       | types.Av1cBox ↦ valid_as ⟦<Av1c as Described>⟧.declaration refl
+      | types.AvccBox ↦ valid_as ⟦<Avcc as Described>⟧.declaration refl
       | types.BtrtBox ↦ valid_as ⟦<Btrt as Described>⟧.declaration refl
       | types.ChanBox ↦ valid_as ⟦<Chan as Described>⟧.declaration refl
       | types.ChnlBox ↦ valid_as ⟦<Chnl as Described>⟧.declaration refl
@@ -359,6 +376,7 @@ impl Declares for ExtraBox {
       | types.FielBox ↦ valid_as ⟦<Fiel as Described>⟧.declaration refl
       | types.FrmaBox ↦ valid_as ⟦<Frma as Described>⟧.declaration refl
       | types.GminBox ↦ valid_as ⟦<Gmin as Described>⟧.declaration refl
+      | types.HdlrBox ↦ valid_as ⟦<Hdlr as Described>⟧.declaration refl
       | types.HmhdBox ↦ valid_as ⟦<Hmhd as Described>⟧.declaration refl
       | types.HvccBox ↦ valid_as ⟦<Hvcc as Described>⟧.declaration refl
       | types.IlocBox ↦ valid_as ⟦<Iloc as Described>⟧.declaration refl
@@ -401,6 +419,8 @@ impl Declares for ExtraBox {
       | types.TextBox ↦ valid_as ⟦<Text as Described>⟧.declaration refl
       | types.TfraBox ↦ valid_as ⟦<Tfra as Described>⟧.declaration refl
       | types.TrefBox ↦ valid_as ⟦<Tref as Described>⟧.declaration refl
+      | types.UrnBox ↦ valid_as ⟦<Urn as Described>⟧.declaration refl
+      | types.VpccBox ↦ valid_as ⟦<Vpcc as Described>⟧.declaration refl
       | types.VvccBox ↦ valid_as ⟦<Vvcc as Described>⟧.declaration refl
       | types.WvttBox ↦ valid_as ⟦<Wvtt as Described>⟧.declaration refl
     ] };
@@ -477,6 +497,14 @@ impl Holds<AlacBox> for ExtraBox {
     }
 }
 
+impl Holds<AlisBox> for ExtraBox {
+    ghost wrapped = { boxes.AlisBox };
+
+    fn wrap(value: AlisBox) -> ExtraBox {
+        ExtraBox::AlisBox(value)
+    }
+}
+
 impl Holds<AuxcBox> for ExtraBox {
     ghost wrapped = { boxes.AuxcBox };
 
@@ -490,6 +518,14 @@ impl Holds<Av1cBox> for ExtraBox {
 
     fn wrap(value: Av1cBox) -> ExtraBox {
         ExtraBox::Av1cBox(value)
+    }
+}
+
+impl Holds<AvccBox> for ExtraBox {
+    ghost wrapped = { boxes.AvccBox };
+
+    fn wrap(value: AvccBox) -> ExtraBox {
+        ExtraBox::AvccBox(value)
     }
 }
 
@@ -642,6 +678,14 @@ impl Holds<GminBox> for ExtraBox {
 
     fn wrap(value: GminBox) -> ExtraBox {
         ExtraBox::GminBox(value)
+    }
+}
+
+impl Holds<HdlrBox> for ExtraBox {
+    ghost wrapped = { boxes.HdlrBox };
+
+    fn wrap(value: HdlrBox) -> ExtraBox {
+        ExtraBox::HdlrBox(value)
     }
 }
 
@@ -978,6 +1022,22 @@ impl Holds<TrefBox> for ExtraBox {
 
     fn wrap(value: TrefBox) -> ExtraBox {
         ExtraBox::TrefBox(value)
+    }
+}
+
+impl Holds<UrnBox> for ExtraBox {
+    ghost wrapped = { boxes.UrnBox };
+
+    fn wrap(value: UrnBox) -> ExtraBox {
+        ExtraBox::UrnBox(value)
+    }
+}
+
+impl Holds<VpccBox> for ExtraBox {
+    ghost wrapped = { boxes.VpccBox };
+
+    fn wrap(value: VpccBox) -> ExtraBox {
+        ExtraBox::VpccBox(value)
     }
 }
 

@@ -22,6 +22,11 @@ returns-in-AlacBox-clause-answer c =
     of_type c.args.of types.AlacBox _ c.args.reader.now.bytes.now (c.args.reader.now.position - 8) c.args.size
     c.in-AlacBox.is c.read_as.ensures.answer
 
+pub returns-in-AlisBox-clause-answer : goal.returns-in-AlisBox-clause-answer
+returns-in-AlisBox-clause-answer c =
+    of_type c.args.of types.AlisBox _ c.args.reader.now.bytes.now (c.args.reader.now.position - 8) c.args.size
+    c.in-AlisBox.is c.read_as-in-AlisBox.ensures.answer
+
 pub returns-in-AuxcBox-clause-answer : goal.returns-in-AuxcBox-clause-answer
 returns-in-AuxcBox-clause-answer c =
     of_type c.args.of types.AuxcBox _ c.args.reader.now.bytes.now (c.args.reader.now.position - 8) c.args.size
@@ -31,6 +36,11 @@ pub returns-in-Av1cBox-clause-answer : goal.returns-in-Av1cBox-clause-answer
 returns-in-Av1cBox-clause-answer c =
     of_type c.args.of types.Av1cBox _ c.args.reader.now.bytes.now (c.args.reader.now.position - 8) c.args.size
     c.in-Av1cBox.is c.read_as-in-Av1cBox.ensures.answer
+
+pub returns-in-AvccBox-clause-answer : goal.returns-in-AvccBox-clause-answer
+returns-in-AvccBox-clause-answer c =
+    of_type c.args.of types.AvccBox _ c.args.reader.now.bytes.now (c.args.reader.now.position - 8) c.args.size
+    c.in-AvccBox.is c.read_as-in-AvccBox.ensures.answer
 
 pub returns-in-BtrtBox-clause-answer : goal.returns-in-BtrtBox-clause-answer
 returns-in-BtrtBox-clause-answer c =
@@ -126,6 +136,11 @@ pub returns-in-GminBox-clause-answer : goal.returns-in-GminBox-clause-answer
 returns-in-GminBox-clause-answer c =
     of_type c.args.of types.GminBox _ c.args.reader.now.bytes.now (c.args.reader.now.position - 8) c.args.size
     c.in-GminBox.is c.read_as-in-GminBox.ensures.answer
+
+pub returns-in-HdlrBox-clause-answer : goal.returns-in-HdlrBox-clause-answer
+returns-in-HdlrBox-clause-answer c =
+    of_type c.args.of types.HdlrBox _ c.args.reader.now.bytes.now (c.args.reader.now.position - 8) c.args.size
+    c.in-HdlrBox.is c.read_as-in-HdlrBox.ensures.answer
 
 pub returns-in-HmhdBox-clause-answer : goal.returns-in-HmhdBox-clause-answer
 returns-in-HmhdBox-clause-answer c =
@@ -336,6 +351,16 @@ pub returns-in-TrefBox-clause-answer : goal.returns-in-TrefBox-clause-answer
 returns-in-TrefBox-clause-answer c =
     of_type c.args.of types.TrefBox _ c.args.reader.now.bytes.now (c.args.reader.now.position - 8) c.args.size
     c.in-TrefBox.is c.read_as-in-TrefBox.ensures.answer
+
+pub returns-in-UrnBox-clause-answer : goal.returns-in-UrnBox-clause-answer
+returns-in-UrnBox-clause-answer c =
+    of_type c.args.of types.UrnBox _ c.args.reader.now.bytes.now (c.args.reader.now.position - 8) c.args.size
+    c.in-UrnBox.is c.read_as-in-UrnBox.ensures.answer
+
+pub returns-in-VpccBox-clause-answer : goal.returns-in-VpccBox-clause-answer
+returns-in-VpccBox-clause-answer c =
+    of_type c.args.of types.VpccBox _ c.args.reader.now.bytes.now (c.args.reader.now.position - 8) c.args.size
+    c.in-VpccBox.is c.read_as-in-VpccBox.ensures.answer
 
 pub returns-in-VvccBox-clause-answer : goal.returns-in-VvccBox-clause-answer
 returns-in-VvccBox-clause-answer c =

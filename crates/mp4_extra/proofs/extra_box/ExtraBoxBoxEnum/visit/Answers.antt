@@ -6,6 +6,12 @@ visit_declared-requires g c = rw c.in-AlacBox.is at c.requires
 pub returns-in-AlacBox : goal.returns-in-AlacBox
 returns-in-AlacBox g c = rw c.in-AlacBox.is c.visit_declared.ensures
 
+pub visit_declared-requires-in-AlisBox : goal.visit_declared-requires-in-AlisBox
+visit_declared-requires-in-AlisBox g c = rw c.in-AlisBox.is at c.requires
+
+pub returns-in-AlisBox : goal.returns-in-AlisBox
+returns-in-AlisBox g c = rw c.in-AlisBox.is c.visit_declared-in-AlisBox.ensures
+
 pub visit_declared-requires-in-AuxcBox : goal.visit_declared-requires-in-AuxcBox
 visit_declared-requires-in-AuxcBox g c = rw c.in-AuxcBox.is at c.requires
 
@@ -17,6 +23,12 @@ visit_declared-requires-in-Av1cBox g c = rw c.in-Av1cBox.is at c.requires
 
 pub returns-in-Av1cBox : goal.returns-in-Av1cBox
 returns-in-Av1cBox g c = rw c.in-Av1cBox.is c.visit_declared-in-Av1cBox.ensures
+
+pub visit_declared-requires-in-AvccBox : goal.visit_declared-requires-in-AvccBox
+visit_declared-requires-in-AvccBox g c = rw c.in-AvccBox.is at c.requires
+
+pub returns-in-AvccBox : goal.returns-in-AvccBox
+returns-in-AvccBox g c = rw c.in-AvccBox.is c.visit_declared-in-AvccBox.ensures
 
 pub visit_declared-requires-in-BtrtBox : goal.visit_declared-requires-in-BtrtBox
 visit_declared-requires-in-BtrtBox g c = rw c.in-BtrtBox.is at c.requires
@@ -131,6 +143,12 @@ visit_declared-requires-in-GminBox g c = rw c.in-GminBox.is at c.requires
 
 pub returns-in-GminBox : goal.returns-in-GminBox
 returns-in-GminBox g c = rw c.in-GminBox.is c.visit_declared-in-GminBox.ensures
+
+pub visit_declared-requires-in-HdlrBox : goal.visit_declared-requires-in-HdlrBox
+visit_declared-requires-in-HdlrBox g c = rw c.in-HdlrBox.is at c.requires
+
+pub returns-in-HdlrBox : goal.returns-in-HdlrBox
+returns-in-HdlrBox g c = rw c.in-HdlrBox.is c.visit_declared-in-HdlrBox.ensures
 
 pub visit_declared-requires-in-HmhdBox : goal.visit_declared-requires-in-HmhdBox
 visit_declared-requires-in-HmhdBox g c = rw c.in-HmhdBox.is at c.requires
@@ -383,6 +401,18 @@ visit_declared-requires-in-TrefBox g c = rw c.in-TrefBox.is at c.requires
 
 pub returns-in-TrefBox : goal.returns-in-TrefBox
 returns-in-TrefBox g c = rw c.in-TrefBox.is c.visit_declared-in-TrefBox.ensures
+
+pub visit_declared-requires-in-UrnBox : goal.visit_declared-requires-in-UrnBox
+visit_declared-requires-in-UrnBox g c = rw c.in-UrnBox.is at c.requires
+
+pub returns-in-UrnBox : goal.returns-in-UrnBox
+returns-in-UrnBox g c = rw c.in-UrnBox.is c.visit_declared-in-UrnBox.ensures
+
+pub visit_declared-requires-in-VpccBox : goal.visit_declared-requires-in-VpccBox
+visit_declared-requires-in-VpccBox g c = rw c.in-VpccBox.is at c.requires
+
+pub returns-in-VpccBox : goal.returns-in-VpccBox
+returns-in-VpccBox g c = rw c.in-VpccBox.is c.visit_declared-in-VpccBox.ensures
 
 pub visit_declared-requires-in-VvccBox : goal.visit_declared-requires-in-VvccBox
 visit_declared-requires-in-VvccBox g c = rw c.in-VvccBox.is at c.requires

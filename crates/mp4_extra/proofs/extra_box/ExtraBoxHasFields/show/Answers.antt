@@ -20,6 +20,11 @@ returns-in-AlacBox g c =
     same_shown g.K.FieldSink.trace g.K.FieldSink.after c.show.result c.args.sink.now
     c.show.new.sink c.args.view c.args.self.now _ c.in-AlacBox.is c.show.ensures
 
+pub returns-in-AlisBox : goal.returns-in-AlisBox
+returns-in-AlisBox g c =
+    same_shown g.K.FieldSink.trace g.K.FieldSink.after c.show-in-AlisBox.result c.args.sink.now
+    c.show-in-AlisBox.new.sink c.args.view c.args.self.now _ c.in-AlisBox.is c.show-in-AlisBox.ensures
+
 pub returns-in-AuxcBox : goal.returns-in-AuxcBox
 returns-in-AuxcBox g c =
     same_shown g.K.FieldSink.trace g.K.FieldSink.after c.show-in-AuxcBox.result c.args.sink.now
@@ -29,6 +34,11 @@ pub returns-in-Av1cBox : goal.returns-in-Av1cBox
 returns-in-Av1cBox g c =
     same_shown g.K.FieldSink.trace g.K.FieldSink.after c.show-in-Av1cBox.result c.args.sink.now
     c.show-in-Av1cBox.new.sink c.args.view c.args.self.now _ c.in-Av1cBox.is c.show-in-Av1cBox.ensures
+
+pub returns-in-AvccBox : goal.returns-in-AvccBox
+returns-in-AvccBox g c =
+    same_shown g.K.FieldSink.trace g.K.FieldSink.after c.show-in-AvccBox.result c.args.sink.now
+    c.show-in-AvccBox.new.sink c.args.view c.args.self.now _ c.in-AvccBox.is c.show-in-AvccBox.ensures
 
 pub returns-in-BtrtBox : goal.returns-in-BtrtBox
 returns-in-BtrtBox g c =
@@ -124,6 +134,11 @@ pub returns-in-GminBox : goal.returns-in-GminBox
 returns-in-GminBox g c =
     same_shown g.K.FieldSink.trace g.K.FieldSink.after c.show-in-GminBox.result c.args.sink.now
     c.show-in-GminBox.new.sink c.args.view c.args.self.now _ c.in-GminBox.is c.show-in-GminBox.ensures
+
+pub returns-in-HdlrBox : goal.returns-in-HdlrBox
+returns-in-HdlrBox g c =
+    same_shown g.K.FieldSink.trace g.K.FieldSink.after c.show-in-HdlrBox.result c.args.sink.now
+    c.show-in-HdlrBox.new.sink c.args.view c.args.self.now _ c.in-HdlrBox.is c.show-in-HdlrBox.ensures
 
 pub returns-in-HmhdBox : goal.returns-in-HmhdBox
 returns-in-HmhdBox g c =
@@ -334,6 +349,16 @@ pub returns-in-TrefBox : goal.returns-in-TrefBox
 returns-in-TrefBox g c =
     same_shown g.K.FieldSink.trace g.K.FieldSink.after c.show-in-TrefBox.result c.args.sink.now
     c.show-in-TrefBox.new.sink c.args.view c.args.self.now _ c.in-TrefBox.is c.show-in-TrefBox.ensures
+
+pub returns-in-UrnBox : goal.returns-in-UrnBox
+returns-in-UrnBox g c =
+    same_shown g.K.FieldSink.trace g.K.FieldSink.after c.show-in-UrnBox.result c.args.sink.now
+    c.show-in-UrnBox.new.sink c.args.view c.args.self.now _ c.in-UrnBox.is c.show-in-UrnBox.ensures
+
+pub returns-in-VpccBox : goal.returns-in-VpccBox
+returns-in-VpccBox g c =
+    same_shown g.K.FieldSink.trace g.K.FieldSink.after c.show-in-VpccBox.result c.args.sink.now
+    c.show-in-VpccBox.new.sink c.args.view c.args.self.now _ c.in-VpccBox.is c.show-in-VpccBox.ensures
 
 pub returns-in-VvccBox : goal.returns-in-VvccBox
 returns-in-VvccBox g c =
