@@ -261,7 +261,11 @@ const FORMAT: &[NumberName] = &[
 /// The names of the fields of the part with the format of samples.
 const EXTENSION: <AvcExtensionShape as NamedShape>::Names = names_of!(
     FORMAT,
-    list!("sequenceParameterSetExtNALUnit"),
+    list!(
+        "sequenceParameterSetExtNALUnit",
+        Counted,
+        "numOfSequenceParameterSetExt"
+    ),
     run!("data_bytes", SomeBytes)
 );
 
@@ -369,7 +373,11 @@ type AvccShown = (
 const NAMES: <AvccShown as NamedShape>::Names = names_of!(
     SETS,
     list!("sequenceParameterSetNALUnit"),
-    list!("pictureParameterSetNALUnit"),
+    list!(
+        "pictureParameterSetNALUnit",
+        Counted,
+        "numOfPictureParameterSets"
+    ),
     ((), run!("data_bytes", SomeBytes))
 );
 

@@ -1,5 +1,5 @@
 //! Fields that are read from bytes: those that begin a box that holds boxes, those of sample entries of any code, and
-//! those of a handler with its name as it stands there.
+//! those of a data reference with its location as it stands there.
 
 ghost use Rattle.std.specs.Prelude.{◌≡◌, ◌+◌, ◌-◌, ◌≤◌, length, min, max, slice_index, slice_range, OnOk};
 ghost use Rattle.mp4_show.specs.Nesting.{fields, Keeps};
@@ -213,37 +213,6 @@ pub fn put_entry<S: FieldSink>(bytes: &[u8], sink: &mut S) -> Result<()>
     ensures nesting { OnOk result (Keeps S.since fields sink.old sink.new) }
 {
     sink.field("data_reference_index", number(u16_at(bytes, 6)))
-}
-
-/// The name of a handler, in bytes that go to the end of its box: up to the last byte, which ends it. If the first byte
-/// is the number of those after it, with or without a byte of 0 that ends them, it is QuickTime's count, and the name
-/// is between these two.
-fn handler_name(bytes: &[u8]) -> &[u8] {
-    let Some((first, rest)) = bytes.split_first() else {
-        return bytes;
-    };
-    let text = match rest.split_last() {
-        Some((0, text)) => text,
-        _ => rest,
-    };
-    let count = usize::from(*first);
-    if count == rest.len() || count == text.len() {
-        text
-    } else {
-        bytes.get(..rest.len()).unwrap_or(&[])
-    }
-}
-
-/// Hands the fields of a handler to a sink (ISO/IEC 14496-12, 8.4.3; QuickTime File Format, "Handler reference atoms"),
-/// of which these bytes are the content.
-pub fn put_handler<S: FieldSink>(bytes: &[u8], sink: &mut S) -> Result<()>
-    requires { 25 ≤ length bytes.now }
-    ensures nesting { OnOk result (Keeps S.since fields sink.old sink.new) }
-{
-    let name = handler_name(&bytes[24..]);
-    let handler_type = FourCC::from(u32_at(bytes, 8));
-    let flags = u32_at(bytes, 0) & 0xFF_FFFF;
-    put_named_handler(bytes[0], flags, handler_type, name, sink)
 }
 
 /// Hands the fields of a handler with this name to a sink.

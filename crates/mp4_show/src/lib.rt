@@ -17,8 +17,8 @@ mod value;
 mod value_text;
 
 pub use brief::{
-    SOUND_LENGTH, VISUAL_LENGTH, put_data, put_data_type, put_entry, put_full, put_handler,
-    put_list_head, put_reference, put_sound, put_visual,
+    SOUND_LENGTH, VISUAL_LENGTH, put_data, put_data_type, put_entry, put_full, put_list_head,
+    put_reference, put_sound, put_visual,
 };
 pub use code::push_code;
 pub use escape::{is_escaped, push_escaped, push_escaped_bytes};
