@@ -121,6 +121,10 @@ class Declared:
         elif name == "WithSize":
             yield "size (4)"
             yield from self.parts_of(inside[0], fields)
+        elif name == "Dependent":
+            bits, entry, *widths = inside
+            yield f"{next(fields, None)} ({self.entry(bits[0], *(it[0] for it in widths))})"
+            yield from self.parts_of(entry, fields)
         elif name == "Zeros":
             if inside[0][0] != "0":
                 yield f"reserved ({inside[0][0]})"
@@ -151,6 +155,14 @@ class Declared:
             return f"to the end; each {self.entry(*names)}"
         if name == "Each":
             return f"count {NUMBERS[names[0]]}; each: {', '.join(self.parts_of_entry(names[1]))}"
+        if name == "Nested":
+            return ", ".join(self.parts_of_entry(names[0]))
+        if name == "Counted":
+            return f"counted before; each: {', '.join(self.parts_of_entry(names[0]))}"
+        if name == "Tail":
+            impl = rf"impl LeastSize for Nested<{inside[1][1][0][0]}> .*? const LEAST: u64 = (\d+);"
+            least = re.search(impl, self.source)
+            return f"{self.held(inside[1])}; {self.condition(inside[0])}, if {least[1]} bytes are left, else to the end"
         if name == "EachToEnd":
             return f"to the end; each: {', '.join(self.parts_of_entry(names[0]))}"
         if name == "Rows":
@@ -173,8 +185,8 @@ class Declared:
 
     def condition(self, shape):
         name, inside = shape
-        if name == "VersionZero":
-            return "version 0"
+        if name in ("VersionZero", "HasFormat"):
+            return "version 0" if name == "VersionZero" else "by profile"
         words = {"FromVersion": "from version", "IfFlags": "flag", "WithoutFlags": "without flag"}
         return f"{words[name]} {inside[0][0]}"
 

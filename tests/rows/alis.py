@@ -1,7 +1,9 @@
 """`alis`, a reference to media data by an alias of a Macintosh. The bytes of the fields count up from 0x81, after the
 version."""
 
-from tests.rows.making import END, NO_VERSION_1, Box, box, changed, counting, declared, declared_as, fields, full, resized
+from tests.rows.making import (
+    END, NO_VERSION_1, Box, box, changed, counting, declared, declared_as, fields, full, resized,
+)
 
 ALIS = box(b"alis", b"\0", counting(0x81, 0x86))
 

@@ -1,5 +1,5 @@
-"""`hdlr`, the handler of a media. The bytes of the fields count up from 0x81, except the name. The codec's own box has the
-type and the name as a text. The declared one has all bytes."""
+"""`hdlr`, the handler of a media. The bytes of the fields count up from 0x81, except the name. The codec's own box has
+the type and the name as a text. The declared one has all bytes."""
 
 from tests.rows.making import (
     END, Box, box, changed, counting, declared, declared_as, fields, filled, full, invalid, listed, one, resized,

@@ -1,5 +1,5 @@
-"""`urn `, a reference to media data by a name, and a location if there is one. The bytes of the fields count up from 0x81,
-after the version, except those of 0 that end a string."""
+"""`urn `, a reference to media data by a name, and a location if there is one. The bytes of the fields count up from
+0x81, after the version, except those of 0 that end a string."""
 
 from tests.rows.making import (
     END, NO_END, NO_VERSION_1, Box, box, changed, counting, declared, declared_as, fields, full, resized,

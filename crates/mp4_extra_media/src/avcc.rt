@@ -291,8 +291,9 @@ pub struct Avcc {
     pub sequence_parameter_sets: Entries<AvcNalUnit>,
     /// The picture parameter sets, at most 255.
     pub picture_parameter_sets: Entries<AvcNalUnit>,
-    /// `Known` for profiles other than Baseline, Main and Extended, if the box has at least four more bytes. Else `Other`,
-    /// with the bytes up to the end of the box: none, also in old files of High profile, which leave the part out.
+    /// `Known` for profiles other than Baseline, Main and Extended, if the box has at least four more bytes. Otherwise
+    /// `Other`, with the bytes up to the end of the box: none, also in old files of High profile, which leave the part
+    /// out.
     pub extension: AtEnd<AvcExtension, Entries<u8>>,
 }
 

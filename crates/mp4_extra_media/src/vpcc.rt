@@ -101,8 +101,7 @@ impl EntryLayout<6, 4> for VpFormat {
     ghost few = { lit< tt };
 }
 
-/// The configuration of a VP8 or VP9 decoder (`vpcC`, VP Codec ISO Media File Format Binding, VP Codec Configuration
-/// Box).
+/// The configuration of a VP decoder (`vpcC`, VP Codec ISO Media File Format Binding, VP Codec Configuration Box).
 #[derive(Debug, Drop, PartialEq, Eq)]
 pub struct Vpcc {
     /// 1 in the binding. 0 in its drafts, which have other fields.
@@ -121,8 +120,8 @@ pub struct Vpcc {
     pub codec_initialization_data: Entries<u8>,
 }
 
-/// The content of the box: version, flags, two numbers, two bytes of bits in version 0, four bytes of bits since version
-/// 1, a count of 16 bits, and that many bytes.
+/// The content of the box: version, flags, two numbers, two bytes of bits in version 0, four bytes of bits since
+/// version 1, a count of 16 bits, and that many bytes.
 pub type VpccShape = Full<
     2,
     (

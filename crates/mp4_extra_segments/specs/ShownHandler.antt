@@ -16,7 +16,8 @@ pub whole_set_code : (name : List ℕ) (c : FourCC) → AreMembers (shown_set_co
 whole_set_code name c =
     members_if (number_of c == 0) [] (field name (code (bytes_of_code c)) ∷ []) (λ s. refl) (λ s. refl)
 
--- QuickTime counts the name: its first byte is the number of those after it, with or without a byte of 0 that ends them.
+-- QuickTime counts the name: its first byte is the number of those after it, with or without a byte of 0 that ends
+-- them.
 abbrev pub is_counted : List ℕ → Bool
 is_counted xs =
     nat_le 2 (length xs)

@@ -19,8 +19,7 @@ use mp4_shown::{
     show_shape,
 };
 
-/// The handler of media or of metadata (`hdlr`, ISO/IEC 14496-12, 8.4.3, and QuickTime File Format, "Handler reference
-/// atoms").
+/// The handler of media or of metadata (`hdlr`, QuickTime File Format, and ISO/IEC 14496-12, 8.4.3).
 #[derive(Debug, Drop, PartialEq, Eq)]
 pub struct Hdlr {
     /// 0 in the standard.
@@ -29,7 +28,7 @@ pub struct Hdlr {
     pub flags: u32,
     /// 0 in the standard (`pre_defined`). In QuickTime `mhlr` for a handler of media, `dhlr` for one of data.
     pub component_type: FourCC,
-    /// The kind of the media or of the metadata, such as `vide`, `soun`, `text` or `mdir`. QuickTime's name is component
+    /// The kind of the media or of the metadata, such as `vide`, `soun`, `text` or `mdir`. QuickTime calls it component
     /// subtype.
     pub handler_type: FourCC,
     /// 0 in the standard. QuickTime reserves it, and its files have a code such as `appl`.
