@@ -1,4 +1,4 @@
--- The events of what a box ends with.
+-- The events of the end of a box.
 use Rattle.std.specs.Prelude.{List}
 use Rattle.mp4_shown.specs.Event.{Event}
 use Rattle.mp4_shown.specs.Members.{AreMembers, whole_run}

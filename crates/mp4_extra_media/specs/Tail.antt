@@ -1,4 +1,4 @@
--- What a box ends with: a shape if a condition holds and the box has at least k more bytes, or else bytes.
+-- The end of a box: a shape if a condition holds and the box has at least k more bytes, and otherwise bytes.
 use Rattle.std.specs.Prelude.{◌≡◌, ℕ, ◌-◌, ◌&&◌, Bool, true, false, nat_le, List, length, if◌then◌else◌}
 use Rattle.mp4_frame.specs.Reading.{Reading, ◌>>=◌, done}
 use Rattle.mp4_declared.specs.declared.context.Context.{Context}

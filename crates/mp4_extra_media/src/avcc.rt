@@ -123,7 +123,8 @@ impl EntryLayout<8, 6> for AvcConfig {
     ghost few = { lit< tt };
 }
 
-/// What follows sees the profile as its version, and the number of sequence parameter sets as its flags.
+/// The parts after these bits see the profile as their version, and the number of sequence parameter sets as their
+/// flags.
 impl HasContext for AvcConfig {
     ghost context_of = { λ c. record {
       version = c.avc_profile_indication;

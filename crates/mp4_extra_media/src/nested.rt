@@ -1,4 +1,4 @@
-//! A struct with a shape of its own, as a part of a box.
+//! A struct with a shape, as a part of a box.
 
 ghost use Rattle.std.specs.Prelude.{◌≡◌, ◌≤◌, ◌+◌, ◌-◌, ◌^◌, ◌↔◌, ◌++◌, min, IsTrue, take};
 ghost use Rattle.mp4_declared.specs.DeclaredEntry.{entry_shape};

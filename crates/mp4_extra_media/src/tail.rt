@@ -1,4 +1,4 @@
-//! What a box ends with: a shape that may be absent, or other bytes.
+//! The end of a box: a shape that may be absent, or other bytes.
 
 ghost use Rattle.std.specs.Prelude.{◌≡◌, ℕ, ◌≤◌, ◌-◌};
 ghost use Rattle.mp4_declared.specs.declared.context.Context.{Context};
@@ -30,7 +30,7 @@ pub trait LeastSize: Shape {
     /// The least number of bytes.
     const LEAST: u64;
 
-    /// Each value has at least so many.
+    /// Each value has at least `LEAST` bytes.
     ghost is_least: { (c : Context) (x : Self.Value) → LEAST ≤ Self.shape.size c x };
 }
 

@@ -1,5 +1,5 @@
 //! Fields that are read from bytes: those that begin a box that holds boxes, those of sample entries of any code, and
-//! those of a data reference with its location as it stands there.
+//! those of a data reference, whose location may not be UTF-8.
 
 ghost use Rattle.std.specs.Prelude.{◌≡◌, ◌+◌, ◌-◌, ◌≤◌, length, min, max, slice_index, slice_range, OnOk};
 ghost use Rattle.mp4_show.specs.Nesting.{fields, Keeps};
