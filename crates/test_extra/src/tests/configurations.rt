@@ -1,0 +1,159 @@
+//! Configurations of decoders, handlers and data references with values that do not fit. A function for each box makes
+//! it, writes it and returns the ending.
+
+use crate::tests::{UNFIT, bytes_of, ending};
+use mp4_extra::{
+    AtEnd, AvcConfig, AvcExtension, AvcFormat, AvcNalUnit, Avcc, Hdlr, Urn, VpDraftFormat,
+    VpFormat, Vpcc,
+};
+use mp4_stream::{Entries, FourCC, Result as Made};
+use std::alloc::Global;
+use std::test::Fail;
+
+/// Returns the bits of an AVC configuration with this profile and this count of sequence parameter sets.
+fn config(avc_profile_indication: u8, num_of_sequence_parameter_sets: u8) -> AvcConfig {
+    AvcConfig {
+        avc_profile_indication,
+        num_of_sequence_parameter_sets,
+        ..AvcConfig::default()
+    }
+}
+
+/// Returns a list of one NAL unit.
+fn one_unit(alloc: Global) -> Made<Entries<AvcNalUnit>> {
+    let mut units = Entries::new(alloc);
+    units.push(AvcNalUnit {
+        bytes: bytes_of(alloc, b"\x67\x64")?,
+    })?;
+    Ok(units)
+}
+
+/// Writes an AVC configuration with one sequence parameter set, and with `bytes` after the sets.
+fn avcc(alloc: Global, config: AvcConfig, bytes: &[u8]) -> Made<&'static str> {
+    Ok(ending(
+        alloc,
+        Avcc {
+            config,
+            sequence_parameter_sets: one_unit(alloc)?,
+            picture_parameter_sets: Entries::new(alloc),
+            extension: AtEnd::Other(bytes_of(alloc, bytes)?),
+        },
+    ))
+}
+
+/// Writes an AVC configuration of a profile, without sets and with a format of samples.
+fn avcc_with_format(alloc: Global, profile: u8, chroma_format: u8) -> &'static str {
+    let format = AvcFormat {
+        chroma_format,
+        ..AvcFormat::default()
+    };
+    let extension = AvcExtension {
+        format,
+        sequence_parameter_set_exts: Entries::new(alloc),
+        rest: Entries::new(alloc),
+    };
+    ending(
+        alloc,
+        Avcc {
+            config: config(profile, 0),
+            sequence_parameter_sets: Entries::new(alloc),
+            picture_parameter_sets: Entries::new(alloc),
+            extension: AtEnd::Known(extension),
+        },
+    )
+}
+
+/// Writes a VP configuration of a `version`, with the format of version 0, that of version 1, or both.
+fn vpcc(alloc: Global, version: u8, is_draft: bool, is_final: bool) -> &'static str {
+    ending(
+        alloc,
+        Vpcc {
+            version,
+            flags: 0x81_8283,
+            profile: 0x84,
+            level: 0x85,
+            draft_format: if is_draft {
+                Some(VpDraftFormat::default())
+            } else {
+                None
+            },
+            format: if is_final {
+                Some(VpFormat::default())
+            } else {
+                None
+            },
+            codec_initialization_data: Entries::new(alloc),
+        },
+    )
+}
+
+/// Writes a handler with these flags.
+fn hdlr(alloc: Global, flags: u32) -> &'static str {
+    let code = FourCC { value: *b"vide" };
+    ending(
+        alloc,
+        Hdlr {
+            version: 0x81,
+            flags,
+            component_type: code,
+            handler_type: code,
+            component_manufacturer: code,
+            component_flags: 0x8283_8485,
+            component_flags_mask: 0x8687_8889,
+            name: Entries::new(alloc),
+        },
+    )
+}
+
+/// Writes a reference by this name.
+fn urn(alloc: Global, name: &[u8]) -> Made<&'static str> {
+    Ok(ending(
+        alloc,
+        Urn {
+            version: 0,
+            flags: 1,
+            name: bytes_of(alloc, name)?,
+            location: Entries::new(alloc),
+        },
+    ))
+}
+
+/// Returns whether all values that do not fit are refused.
+fn are_refused(alloc: Global) -> Made<bool> {
+    let endings = [
+        avcc(alloc, config(66, 0), b"")?,
+        avcc(alloc, config(66, 2), b"")?,
+        avcc(alloc, config(100, 1), b"\x81\x82\x83\x84")?,
+        avcc_with_format(alloc, 88, 1),
+        avcc_with_format(alloc, 100, 4),
+        vpcc(alloc, 0, false, true),
+        vpcc(alloc, 1, true, false),
+        vpcc(alloc, 1, true, true),
+        vpcc(alloc, 2, false, true),
+        hdlr(alloc, 0x100_0000),
+        urn(alloc, b"\x81\x00")?,
+    ];
+    Ok(endings == [UNFIT; 11])
+}
+
+/// Returns whether the values beside them are written.
+fn are_written(alloc: Global) -> Made<bool> {
+    let endings = [
+        avcc(alloc, config(66, 1), b"\x81\x82\x83\x84")?,
+        avcc(alloc, config(100, 1), b"\x81\x82\x83")?,
+        avcc_with_format(alloc, 100, 3),
+        vpcc(alloc, 0, true, false),
+        vpcc(alloc, 1, false, true),
+        hdlr(alloc, 0xFF_FFFF),
+        urn(alloc, b"\x81")?,
+    ];
+    Ok(endings == ["ok"; 7])
+}
+
+#[test]
+fn configurations_that_do_not_fit(rt: HostRuntime) -> Result<(), Fail> {
+    let alloc = rt.alloc();
+    assert!(rt; are_refused(alloc)?);
+    assert!(rt; are_written(alloc)?);
+    Ok(())
+}
