@@ -1476,9 +1476,9 @@ class VpcC(_VpcC, total=False):
     bitDepth: int
     colorSpace: int
     chromaSubsampling: int
+    chromaSubsampling_name: str
     transferFunction: int
     videoFullRangeFlag: int
-    chromaSubsampling_name: str
     colourPrimaries: int
     colourPrimaries_name: str
     transferCharacteristics: int

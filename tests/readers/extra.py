@@ -977,10 +977,10 @@ def vpcc(c):
     else:
         c.bits("4 bitDepth, 3 chromaSubsampling, 1 videoFullRangeFlag, 8 colourPrimaries, 8 transferCharacteristics,"
                "8 matrixCoefficients")
-        c.named({"chromaSubsampling": {0: "4:2:0 vertical", 1: "4:2:0 colocated", 2: "4:2:2", 3: "4:4:4"},
-                 "colourPrimaries": COLOURS["colour_primaries"],
+        c.named({"colourPrimaries": COLOURS["colour_primaries"],
                  "transferCharacteristics": COLOURS["transfer_characteristics"],
                  "matrixCoefficients": COLOURS["matrix_coefficients"]})
+    c.named({"chromaSubsampling": {0: "4:2:0 vertical", 1: "4:2:0 colocated", 2: "4:2:2", 3: "4:4:4"}})
     found = c.take(c.count(2, 1, "bytes"))
     if c.raw or found:
         c.put("codecInitializationData", c.as_bytes(found))

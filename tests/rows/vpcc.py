@@ -159,5 +159,6 @@ def fields_of_version_0():
     # Has the bits 1010 0101 and 0011 110 1.
     yield fields(
         full(b"vpcC", u8(1, 20, 0xA5, 0x3D), u16(1), u8(0xEE)), version=0, flags=0, profile=1, level=20, bitDepth=10,
-        colorSpace=5, chromaSubsampling=3, transferFunction=6, videoFullRangeFlag=1, codecInitializationData="ee",
+        colorSpace=5, chromaSubsampling=3, chromaSubsampling_name="4:4:4", transferFunction=6, videoFullRangeFlag=1,
+        codecInitializationData="ee",
     )

@@ -7,7 +7,6 @@ ghost use Rattle.mp4_frame.specs.declared.codes.TheConstants as codes;
 ghost use Rattle.mp4_shown.specs.Lists.{bytes_item};
 ghost use Rattle.mp4_shown.specs.Members.{whole_bytes_item};
 ghost use Rattle.std.proofs.Common.{refl, lit<};
-ghost use Rattle.std.specs.Prelude.{◌≡◌};
 ghost use Rattle.mp4_declared.specs.OwnBox.{layout_of};
 ghost use Rattle.mp4_declared.specs.DeclaredEntry.{exact_layout_of};
 ghost use Rattle.mp4_declared.specs.Layout.{packed, fields_of};
@@ -23,8 +22,8 @@ use mp4_declared::{
 };
 use mp4_frame::{Entries, Result, TryClone, codes};
 use mp4_shown::{
-    FieldSink, HasFields, Meaning, NamedShape, NumberName, ShowShape, ShownEntry, Value, View,
-    list, names_of, number, run, show_shape,
+    FieldSink, HasFields, Meaning, NamedShape, NumberName, ShownEntry, Value, View, list, names_of,
+    number, run, show_shape,
 };
 
 /// A NAL unit (ISO/IEC 14496-10, 7.3.1).

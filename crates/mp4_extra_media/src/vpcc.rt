@@ -25,7 +25,7 @@ pub struct VpDraftFormat {
     pub bit_depth: u8,
     /// The colour space; 0 if unspecified. 4 bits.
     pub color_space: u8,
-    /// The sampling of colour. 4 bits.
+    /// The sampling of colour: 0 and 1 for 4:2:0, 2 for 4:2:2, 3 for 4:4:4, 4 for 4:4:0. 4 bits.
     pub chroma_subsampling: u8,
     /// The transfer function. 3 bits.
     pub transfer_function: u8,
@@ -169,7 +169,7 @@ const CHROMA_SUBSAMPLINGS: &[Meaning] = &[
 const DRAFT_FORMAT: &[NumberName] = &[
     number!("bitDepth"),
     number!("colorSpace"),
-    number!("chromaSubsampling"),
+    number!("chromaSubsampling", Named, CHROMA_SUBSAMPLINGS),
     number!("transferFunction"),
     number!("videoFullRangeFlag"),
 ];
