@@ -5,7 +5,7 @@ ghost use Rattle.mp4_extra_segments.specs.ShownHandler.{whole_set_code};
 ghost use Rattle.mp4_extra_segments.specs.declared.hdlr.TheConstants.{NAMES};
 ghost use Rattle.mp4_frame.specs.declared.codes.TheConstants as codes;
 ghost use Rattle.mp4_shown.specs.Event.{Text, seen_text};
-ghost use Rattle.mp4_shown.specs.Runs.{is_ended};
+ghost use Rattle.mp4_shown.specs.Runs.{is_ended, unended};
 ghost use Rattle.std.proofs.Common.{refl, lit<};
 ghost use Rattle.std.specs.Prelude.{◌≡◌};
 ghost use Rattle.mp4_declared.specs.OwnBox.{layout_of};
@@ -38,7 +38,7 @@ pub struct Hdlr {
     /// 0 in the standard.
     pub component_flags_mask: u32,
     /// The name, for people, with what says where it ends: a byte of 0 after it in the standard, or its number of bytes
-    /// in a byte before it in QuickTime. Some files have neither, or no name.
+    /// in a byte before it in QuickTime. Some files have neither, or no name. `text` returns the name itself.
     pub name: Entries<u8>,
 }
 
@@ -103,6 +103,26 @@ fn is_bare(bytes: &[u8]) -> bool
     ensures { result ≡ is_bare bytes.now }
 {
     bytes.is_empty() || (is_counted(bytes) && !is_ended(bytes))
+}
+
+/// Returns `bytes` without a last byte of 0.
+fn unended(bytes: &[u8]) -> &[u8]
+    ensures { result.now ≡ unended bytes.now }
+{
+    if is_ended(bytes) {
+        &bytes[..bytes.len() - 1]
+    } else {
+        bytes
+    }
+}
+
+impl Hdlr {
+    /// Returns the name without QuickTime's count, and without a byte of 0 that ends it. It may not be UTF-8.
+    pub fn text(&self) -> &[u8]
+        ensures { result.now ≡ unended (after_count self.now.name) }
+    {
+        unended(after_count(self.name.as_slice()))
+    }
 }
 
 /// A code that is not shown if it is 0, for showing only.

@@ -1,5 +1,5 @@
-//! Configurations of decoders, handlers and data references with values that do not fit. A function for each box makes
-//! it, writes it and returns the ending.
+//! Configurations of decoders, handlers and data references with values that do not fit, and the names of handlers. A
+//! function for each box makes it, writes it and returns the ending.
 
 use crate::tests::{UNFIT, bytes_of, ending};
 use mp4_extra::{
@@ -87,22 +87,29 @@ fn vpcc(alloc: Global, version: u8, is_draft: bool, is_final: bool) -> &'static 
     )
 }
 
-/// Writes a handler with these flags.
-fn hdlr(alloc: Global, flags: u32) -> &'static str {
+/// Returns a handler with these flags and these bytes of its name.
+fn handler(alloc: Global, flags: u32, name: &[u8]) -> Made<Hdlr> {
     let code = FourCC { value: *b"vide" };
-    ending(
-        alloc,
-        Hdlr {
-            version: 0x81,
-            flags,
-            component_type: code,
-            handler_type: code,
-            component_manufacturer: code,
-            component_flags: 0x8283_8485,
-            component_flags_mask: 0x8687_8889,
-            name: Entries::new(alloc),
-        },
-    )
+    Ok(Hdlr {
+        version: 0x81,
+        flags,
+        component_type: code,
+        handler_type: code,
+        component_manufacturer: code,
+        component_flags: 0x8283_8485,
+        component_flags_mask: 0x8687_8889,
+        name: bytes_of(alloc, name)?,
+    })
+}
+
+/// Writes a handler with these flags.
+fn hdlr(alloc: Global, flags: u32) -> Made<&'static str> {
+    Ok(ending(alloc, handler(alloc, flags, b"")?))
+}
+
+/// Returns whether `text` is the name of a handler with the bytes `name`.
+fn is_named(alloc: Global, name: &[u8], text: &[u8]) -> Made<bool> {
+    Ok(handler(alloc, 0, name)?.text() == text)
 }
 
 /// Writes a reference by this name.
@@ -130,7 +137,7 @@ fn are_refused(alloc: Global) -> Made<bool> {
         vpcc(alloc, 1, true, false),
         vpcc(alloc, 1, true, true),
         vpcc(alloc, 2, false, true),
-        hdlr(alloc, 0x100_0000),
+        hdlr(alloc, 0x100_0000)?,
         urn(alloc, b"\x81\x00")?,
     ];
     Ok(endings == [UNFIT; 11])
@@ -144,10 +151,33 @@ fn are_written(alloc: Global) -> Made<bool> {
         avcc_with_format(alloc, 100, 3),
         vpcc(alloc, 0, true, false),
         vpcc(alloc, 1, false, true),
-        hdlr(alloc, 0xFF_FFFF),
+        hdlr(alloc, 0xFF_FFFF)?,
         urn(alloc, b"\x81")?,
     ];
     Ok(endings == ["ok"; 7])
+}
+
+/// Returns whether names have neither their ends nor their counts.
+fn are_named(alloc: Global) -> Made<bool> {
+    let names = [
+        is_named(alloc, b"", b"")?,
+        is_named(alloc, b"\0", b"")?,
+        is_named(alloc, b"ab\0", b"ab")?,
+        is_named(alloc, b"ab", b"ab")?,
+        is_named(alloc, b"\x02ab", b"ab")?,
+        is_named(alloc, b"\x02ab\0", b"ab")?,
+        is_named(alloc, b"\x03ab\0", b"ab")?,
+        is_named(alloc, b"\x01ab\0", b"\x01ab")?,
+        is_named(alloc, b"\x04ab\0", b"\x04ab")?,
+    ];
+    Ok(names == [true; 9])
+}
+
+#[test]
+fn names_of_handlers(rt: HostRuntime) -> Result<(), Fail> {
+    let alloc = rt.alloc();
+    assert!(rt; are_named(alloc)?);
+    Ok(())
 }
 
 #[test]
