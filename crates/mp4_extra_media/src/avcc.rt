@@ -220,7 +220,8 @@ impl DeclaredEntry for AvcExtension {
     }
 
     fn visit<Q: EntryVisitor<Self::Shape>>(&self, question: Q, out: &mut [u8]) -> Q::Answer {
-        let parts = parts_of!(self => format, sequence_parameter_set_exts.as_slice(), rest.as_slice());
+        let parts =
+            parts_of!(self => format, sequence_parameter_set_exts.as_slice(), rest.as_slice());
         question.visit(parts, out)
     }
 
@@ -230,8 +231,10 @@ impl DeclaredEntry for AvcExtension {
 impl TryClone for AvcExtension {
     fn try_clone(&self) -> Result<AvcExtension> {
         let alloc = *self.rest.allocator();
-        let sequence_parameter_set_exts =
-            clone_each(alloc, self.sequence_parameter_set_exts.as_slice())?;
+        let sequence_parameter_set_exts = clone_each(
+            alloc,
+            self.sequence_parameter_set_exts.as_slice(),
+        )?;
         Ok(AvcExtension {
             format: self.format,
             sequence_parameter_set_exts,
@@ -277,7 +280,8 @@ impl HasFields for AvcExtension {
         (⟦<AvcExtension as DeclaredEntry>⟧.layout.content d) };
 
     fn show<K: FieldSink>(&self, view: View, sink: &mut K) -> mp4_shown::Result<()> {
-        let parts = parts_of!(self => format, sequence_parameter_set_exts.as_slice(), rest.as_slice());
+        let parts =
+            parts_of!(self => format, sequence_parameter_set_exts.as_slice(), rest.as_slice());
         show_shape::<AvcExtensionShape, _, K>(EXTENSION, view, parts, sink)
     }
 }

@@ -62,7 +62,8 @@ impl DeclaredBox for Hdlr {
     }
 
     fn visit<Q: ShapeVisitor<Self::Shape>>(&self, out: &mut [u8]) -> Q::Answer {
-        let parts = parts_of!(self => version, flags, component_type, handler_type, component_manufacturer,
+        let parts =
+            parts_of!(self => version, flags, component_type, handler_type, component_manufacturer,
             component_flags, component_flags_mask, name.as_slice());
         Q::visit(parts, out)
     }
@@ -159,13 +160,7 @@ impl ShowShape<FourCC> for SetCode {
 }
 
 /// The content of the box, for showing only. The look of the name depends on how it ends.
-type HdlrShown = (
-    U8,
-    U24,
-    SetCode,
-    Code,
-    (SetCode, U32, U32, NamedBy<Rest>),
-);
+type HdlrShown = (U8, U24, SetCode, Code, (SetCode, U32, U32, NamedBy<Rest>));
 
 /// The names of the fields.
 const NAMES: <HdlrShown as NamedShape>::Names = (
