@@ -390,8 +390,8 @@ class Walk:
             self.source.text).groups()
         return self.fields(self.source.types[shape], self.source.constant(constant))
 
-    def of_tail(self, inside, names):
-        return together(self.fields(inside[1], names[0]), run(names[1]))
+    def of_avctail(self, _, name):
+        return together(self.of_nested([type_of("AvcExtension")], None), run(name))
 
     def of_typed(self, inside, names):
         tag = re.search(rf"impl Tag for {inside[0][0]} .*? const TAG: u32 = (\w+);", self.source.text)[1]

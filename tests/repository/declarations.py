@@ -159,10 +159,12 @@ class Declared:
             return ", ".join(self.parts_of_entry(names[0]))
         if name == "Counted":
             return f"counted before; each: {', '.join(self.parts_of_entry(names[0]))}"
-        if name == "Tail":
-            impl = rf"impl LeastSize for Nested<{inside[1][1][0][0]}> .*? const LEAST: u64 = (\d+);"
-            least = re.search(impl, self.source)
-            return f"{self.held(inside[1])}; {self.condition(inside[0])}, if {least[1]} bytes are left, else to the end"
+        if name == "AvcTail":
+            known, least = re.search(
+                r"if has_format\(context\.version\) && (\d+) <= left { .*? read_after::<Nested<(\w+)>>",
+                self.source).groups()[::-1]
+            parts = ", ".join(self.parts_of_entry(known))
+            return f"{parts}; by profile, if {least} bytes are left, else to the end"
         if name == "EachToEnd":
             return f"to the end; each: {', '.join(self.parts_of_entry(names[0]))}"
         if name == "Rows":
@@ -185,8 +187,8 @@ class Declared:
 
     def condition(self, shape):
         name, inside = shape
-        if name in ("VersionZero", "HasFormat"):
-            return "version 0" if name == "VersionZero" else "by profile"
+        if name == "VersionZero":
+            return "version 0"
         words = {"FromVersion": "from version", "IfFlags": "flag", "WithoutFlags": "without flag"}
         return f"{words[name]} {inside[0][0]}"
 

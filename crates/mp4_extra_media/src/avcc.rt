@@ -2,29 +2,36 @@
 
 ghost use Rattle.mp4_extra_media.specs.AvcLeast.{avc_least};
 ghost use Rattle.mp4_extra_media.specs.AvcProfile.{has_format};
+ghost use Rattle.mp4_extra_media.specs.ShownTail.{shown_end, whole_end};
+ghost use Rattle.mp4_extra_media.specs.Tail.{map_end, tail_shape};
+ghost use Rattle.mp4_extra_media.specs.TailLaws.{tail_laws};
 ghost use Rattle.mp4_extra_media.specs.declared.avcc.TheConstants.{CONFIG_WIDTHS, EXTENSION, FORMAT_WIDTHS, NAMES};
 ghost use Rattle.mp4_frame.specs.declared.codes.TheConstants as codes;
 ghost use Rattle.mp4_shown.specs.Lists.{bytes_item};
 ghost use Rattle.mp4_shown.specs.Members.{whole_bytes_item};
+ghost use Rattle.mp4_shown.specs.Runs.{BytesName as SeenName, seen_bytes};
 ghost use Rattle.std.proofs.Common.{refl, lit<};
+ghost use Rattle.std.specs.Prelude.{◌≡◌};
 ghost use Rattle.mp4_declared.specs.OwnBox.{layout_of};
 ghost use Rattle.mp4_declared.specs.DeclaredEntry.{exact_layout_of};
 ghost use Rattle.mp4_declared.specs.Layout.{packed, fields_of};
 
+use crate::after::read_after;
 use crate::counted::Counted;
 use crate::dependent::{Dependent, HasContext};
 use crate::nested::Nested;
-use crate::tail::{AtEnd, LeastSize, Tail};
+use crate::tail::AtEnd;
 use mp4_declared::{
-    Bits, Bytes, Condition, Context, Declared, DeclaredBox, DeclaredEntry, Each, EntryLayout,
-    EntryVisitor, Last, Rest, Shape, ShapeVisitor, U8, U16, box_of, clone_each, entry_of,
-    numbers_of, parts_of,
+    Bits, Bytes, Context, Declared, DeclaredBox, DeclaredEntry, Each, EntryLayout, EntryVisitor,
+    Last, PutShape, Rest, Shape, ShapeVisitor, U8, U16, box_of, clone_each, entry_of, numbers_of,
+    parts_of,
 };
 use mp4_frame::{Entries, Result, TryClone, codes};
 use mp4_shown::{
-    FieldSink, HasFields, Meaning, NamedShape, NumberName, ShownEntry, Value, View, list, names_of,
-    number, run, show_shape,
+    BytesName, FieldSink, HasFields, Meaning, NamedShape, NumberName, ShowShape, ShownEntry, Value,
+    View, list, names_of, number, put_bytes, run, show_shape,
 };
+use std::alloc::Global;
 
 /// A NAL unit (ISO/IEC 14496-10, 7.3.1).
 #[derive(Debug, Drop, PartialEq, Eq)]
@@ -138,19 +145,6 @@ impl HasContext for AvcConfig {
     }
 }
 
-/// The condition that the configuration has the format of samples by its profile, which is the version: the profile is
-/// not Baseline, Main or Extended.
-pub struct HasFormat;
-
-impl Condition for HasFormat {
-    ghost holds = { λ c. has_format c.version };
-
-    fn holds(context: Context) -> bool {
-        let profile = context.version;
-        !(profile == 66 || (profile == 77 || profile == 88))
-    }
-}
-
 /// The format of samples. Reserved bits are set in the standard.
 #[derive(Clone, Copy, Debug, Default, PartialEq, Eq)]
 pub struct AvcFormat {
@@ -243,14 +237,6 @@ impl TryClone for AvcExtension {
     }
 }
 
-impl LeastSize for Nested<AvcExtension> {
-    ghost LEAST = { 4 };
-
-    const LEAST: u64 = 4;
-
-    ghost is_least = { λ c x. avc_least _ _ };
-}
-
 /// The names of the format of samples. The standard sets all reserved bits.
 const FORMAT: &[NumberName] = &[
     number!("reserved_before_chroma_format", Reserved(0x3F)),
@@ -286,6 +272,117 @@ impl HasFields for AvcExtension {
     }
 }
 
+/// Returns whether a configuration of this `profile` has the format of samples.
+fn has_format(profile: u8) -> bool
+    ensures { result ≡ has_format profile }
+{
+    !(profile == 66 || (profile == 77 || profile == 88))
+}
+
+/// The end of a configuration. It is an `AvcExtension` if the profile, which is the version that it sees, has the
+/// format of samples, and the box has at least four more bytes. Otherwise it is all bytes up to the end of the box.
+pub struct AvcTail;
+
+impl Shape for AvcTail {
+    type Value = AtEnd<AvcExtension, Entries<u8>>;
+
+    ghost shape = { tail_shape (λ c. has_format c.version) 4 ⟦<Nested<AvcExtension> as Shape>⟧.shape };
+
+    ghost shape_laws = { tail_laws (λ c. has_format c.version) 4 ⟦<Nested<AvcExtension> as Shape>⟧.shape
+        ⟦<Nested<AvcExtension> as Shape>⟧.shape_laws (λ c x. avc_least _ _) };
+
+    fn is_fixed() -> bool {
+        false
+    }
+
+    fn front(_context: Context) -> usize {
+        0
+    }
+
+    fn read(
+        alloc: Global,
+        bytes: &[u8],
+        at: usize,
+        end: u64,
+        context: Context,
+    ) -> Result<(AtEnd<AvcExtension, Entries<u8>>, usize)> {
+        let left = end.saturating_sub(at as u64);
+        if has_format(context.version) && 4 <= left {
+            let (extension, next) = read_after::<Nested<AvcExtension>>(
+                alloc, bytes, at, end, context,
+            )?;
+            Ok((AtEnd::Known(extension), next))
+        } else {
+            let (rest, next) = Rest::read(alloc, bytes, at, end, context)?;
+            Ok((AtEnd::Other(rest), next))
+        }
+    }
+}
+
+impl<'a> PutShape<AtEnd<&'a AvcExtension, &'a [u8]>> for AvcTail {
+    ghost content = { map_end (λ extension. extension.now) (λ rest. rest.now) };
+
+    fn size(context: Context, value: AtEnd<&'a AvcExtension, &'a [u8]>) -> u64 {
+        match value {
+            AtEnd::Known(extension) => Nested::<AvcExtension>::size(context, extension),
+            AtEnd::Other(rest) => rest.len() as u64,
+        }
+    }
+
+    fn fits(context: Context, value: AtEnd<&'a AvcExtension, &'a [u8]>) -> bool {
+        match value {
+            AtEnd::Known(extension) => {
+                has_format(context.version) && Nested::<AvcExtension>::fits(context, extension)
+            }
+            AtEnd::Other(rest) => !(has_format(context.version) && 4 <= rest.len() as u64),
+        }
+    }
+
+    fn put(
+        out: &mut [u8],
+        at: usize,
+        context: Context,
+        value: AtEnd<&'a AvcExtension, &'a [u8]>,
+    ) -> usize {
+        match value {
+            AtEnd::Known(extension) => Nested::<AvcExtension>::put(out, at, context, extension),
+            AtEnd::Other(rest) => mp4_frame::put_bytes(out, at, rest),
+        }
+    }
+}
+
+/// The name is that of other bytes. The fields of an extension have their own.
+impl NamedShape for AvcTail {
+    type Value = AtEnd<AvcExtension, Entries<u8>>;
+
+    type Names = BytesName;
+
+    ghost Seen = { SeenName };
+
+    ghost seen = { seen_bytes };
+
+    ghost shown = { λ name view v. shown_end ⟦<AvcExtension as HasFields>⟧.shown name view v };
+
+    ghost whole = { λ name view v. whole_end ⟦<AvcExtension as HasFields>⟧.shown ⟦<AvcExtension as HasFields>⟧.whole
+        name view v };
+}
+
+impl<'a> ShowShape<AtEnd<&'a AvcExtension, &'a [u8]>> for AvcTail {
+    ghost content = { map_end (λ extension. extension.now) (λ rest. rest.now) };
+
+    fn show<K: FieldSink>(
+        name: BytesName,
+        view: View,
+        value: AtEnd<&'a AvcExtension, &'a [u8]>,
+        sink: &mut K,
+    ) -> mp4_shown::Result<()> {
+        match value {
+            AtEnd::Known(extension) => extension.show(view, sink),
+            AtEnd::Other(rest) => put_bytes(name, view.rows, rest, sink),
+        }
+    }
+}
+
 /// The configuration of an AVC decoder (`avcC`, ISO/IEC 14496-15, 5.3.3.1).
 #[derive(Debug, Drop, PartialEq, Eq)]
 pub struct Avcc {
@@ -305,11 +402,7 @@ pub struct Avcc {
 /// and the format of samples or other bytes.
 pub type AvccShape = Dependent<
     AvcConfig,
-    (
-        Counted<AvcNalUnit>,
-        Each<U8, AvcNalUnit>,
-        Last<Tail<HasFormat, Nested<AvcExtension>>>,
-    ),
+    (Counted<AvcNalUnit>, Each<U8, AvcNalUnit>, Last<AvcTail>),
     8,
     6,
 >;
@@ -371,7 +464,7 @@ type AvccShown = (
     Bits<AvcConfig, 8, 6>,
     Each<U8, AvcNalUnit>,
     Each<U8, AvcNalUnit>,
-    Last<Tail<HasFormat, Nested<AvcExtension>>>,
+    Last<AvcTail>,
 );
 
 /// The names of the fields.
@@ -383,7 +476,7 @@ const NAMES: <AvccShown as NamedShape>::Names = names_of!(
         Counted,
         "numOfPictureParameterSets"
     ),
-    ((), run!("data_bytes", SomeBytes))
+    run!("data_bytes", SomeBytes)
 );
 
 impl HasFields for Avcc {
