@@ -109,7 +109,8 @@ fn hdlr(alloc: Global, flags: u32) -> Made<&'static str> {
 
 /// Returns whether `text` is the name of a handler with the bytes `name`.
 fn is_named(alloc: Global, name: &[u8], text: &[u8]) -> Made<bool> {
-    Ok(handler(alloc, 0, name)?.text() == text)
+    let found = handler(alloc, 0, name)?;
+    Ok(found.text() == text)
 }
 
 /// Writes a reference by this name.
