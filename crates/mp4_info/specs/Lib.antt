@@ -5,3 +5,10 @@ pub mod Av1
 pub mod Vp
 pub mod Mpeg4
 pub mod Dolby
+pub mod Rounding
+pub mod Durations
+pub mod Totals
+pub mod Rates
+pub mod Languages
+pub mod Rotation
+pub mod Channels

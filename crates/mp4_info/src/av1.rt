@@ -117,8 +117,8 @@ fn push_optional(config: Av1Config, colours: Option<Nclx>, out: &mut String) -> 
     }
 }
 
-/// Appends the string of AV1 video, such as `av01.0.04M.10`. `code` is that of its sample entry, and `colours` are those
-/// of the `colr` of the entry, if it has one with numbers.
+/// Appends the string of AV1 video, such as `av01.0.04M.10`. `code` is that of its sample entry. `colours` are those of
+/// the `colr` in the entry, if it has numbers.
 #[tactic(auto, unfolding(crate::specs::Av1::av1_string))]
 pub fn push_av1(
     code: FourCC,

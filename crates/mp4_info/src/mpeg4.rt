@@ -23,9 +23,9 @@ fn push_further(further: Option<u8>, out: &mut String) -> Result<()>
     }
 }
 
-/// Appends the string of a stream with this object type, such as `mp4v.20.9`. `code` is that of its sample entry, and
-/// `further` is the further element of the object type: the profile and level of MPEG-4 video, 0x20, or the audio object
-/// type of MPEG-4 audio, 0x40.
+/// Appends the string of a stream with this object type, such as `mp4v.20.9`. `code` is that of its sample entry.
+/// `further` is the further element of the object type: the profile and level of MPEG-4 video, which is 0x20, or the
+/// audio object type of MPEG-4 audio, which is 0x40.
 #[tactic(auto, unfolding(crate::specs::Mpeg4::mpeg4_string))]
 pub fn push_mpeg4(
     alloc: Global,
