@@ -1,20 +1,18 @@
 -- The channels of sound, by the configuration of its decoder.
-use Rattle.std.specs.Prelude.{ℕ, ◌+◌, ◌==◌, nat_lt, nat_le, ◌&&◌, Bool, true, false, List, ◌++◌, codes, decimal}
+use Rattle.std.specs.Prelude.{ℕ, ◌==◌, nat_le, ◌&&◌, ◌||◌, Bool, List, ◌++◌, codes, decimal}
 use Rattle.std.specs.Prelude.{None, Some, if◌then◌else◌}
 use Rattle.std.specs.declared.option.Option.{Option}
 use Rattle.mp4_info.specs.Digits.{bit}
 use Rattle.mp4_info.specs.declared.channels.Channels.{Channels}
 
 -- the channel configurations of MPEG-4 audio (ISO/IEC 14496-3, 1.6.3.5, and ISO/IEC 23001-8): 1 to 5 count full
--- channels, 6 and 7 have five and seven full channels and one of low frequencies
+-- channels. 6 is 5.1, 7, 12 and 14 are 7.1, and 11 is 6.1: one of the channels has low frequencies
 abbrev pub aac_channels : ℕ → Option Channels
 aac_channels n =
     if nat_le 1 n && nat_le n 5 then Some (record { full = n; low = 0 })
     else if n == 6 then Some (record { full = 5; low = 1 })
-    else if n == 7 then Some (record { full = 7; low = 1 })
+    else if n == 7 || (n == 12 || n == 14) then Some (record { full = 7; low = 1 })
     else if n == 11 then Some (record { full = 6; low = 1 })
-    else if n == 12 then Some (record { full = 7; low = 1 })
-    else if n == 14 then Some (record { full = 7; low = 1 })
     else None
 
 -- the full channels of AC-3 (ETSI TS 102 366, 4.4.2.3): 0 is two separate ones

@@ -17,7 +17,7 @@ tag_of None = []
 tag_of (Some b) = without_end b.now.extended_language
 
 abbrev pub if_some : List ℕ → List ℕ → List ℕ
-if_some tag letters = if nat_lt 0 (length tag) then tag else letters
+if_some tag letters = if length tag == 0 then letters else tag
 
 -- the tag, unless it is empty, and otherwise the letters of the media header
 abbrev pub language_of : Option (Bor Elng) → List ℕ → List ℕ

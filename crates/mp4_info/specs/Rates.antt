@@ -45,4 +45,4 @@ frame_rate timescale es end =
 
 -- the bits of a second, on average over media that end at `end`
 abbrev pub bit_rate : ℕ → ℕ → ℕ → Option ℕ
-bit_rate timescale bytes end = if end == 0 then None else Some (rounded (8 * bytes * timescale) end)
+bit_rate timescale bytes end = if end == 0 then None else Some (rounded (8 * (bytes * timescale)) end)

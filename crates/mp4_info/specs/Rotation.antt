@@ -15,8 +15,8 @@ minus_one = 0xFFFF0000
 abbrev pub is_turn : ℕ → ℕ → ℕ → ℕ → ℕ → ℕ → ℕ → ℕ → Bool
 is_turn a2 b2 c2 d2 a b c d = (a == a2) && ((b == b2) && ((c == c2) && (d == d2)))
 
--- The point (p, q) is mapped to (a p + c q, b p + d q), moved by any distance. The second coordinate counts downwards, so
--- (p, q) becomes (-q, p) in a turn of 90 degrees clockwise.
+-- The point (p, q) is mapped to (a p + c q, b p + d q), moved by any distance. The second coordinate counts downwards,
+-- so (p, q) becomes (-q, p) in a turn of 90 degrees clockwise.
 abbrev pub turn_of : ℕ → ℕ → ℕ → ℕ → Option ℕ
 turn_of a b c d =
     if is_turn one 0 0 one a b c d then Some 0

@@ -3,7 +3,6 @@
 ghost use Rattle.std.specs.Prelude.{◌≡◌, ◌++◌, OnOk, string_bytes};
 ghost use Rattle.mp4_info.specs.Channels.{aac_channels, ac3_channels, ac3_full, channel_text};
 
-use crate::digits::bit;
 use mp4_show::{Result, push_number};
 
 /// The numbers of channels.
@@ -25,10 +24,8 @@ pub fn aac_channels(configuration: u8) -> Option<Channels>
             low: 0,
         }),
         6 => Some(Channels { full: 5, low: 1 }),
-        7 => Some(Channels { full: 7, low: 1 }),
+        7 | 12 | 14 => Some(Channels { full: 7, low: 1 }),
         11 => Some(Channels { full: 6, low: 1 }),
-        12 => Some(Channels { full: 7, low: 1 }),
-        14 => Some(Channels { full: 7, low: 1 }),
         _ => None,
     }
 }
@@ -56,7 +53,7 @@ pub fn ac3_channels(acmod: u8, lfeon: bool) -> Channels
 {
     Channels {
         full: ac3_full(acmod),
-        low: bit(lfeon) as u8,
+        low: if lfeon { 1 } else { 0 },
     }
 }
 
@@ -65,13 +62,13 @@ pub fn ac3_channels(acmod: u8, lfeon: bool) -> Channels
 pub fn push_channels(channels: Channels, out: &mut String) -> Result<()>
     ensures text { OnOk result (string_bytes out.new ≡ string_bytes out.old ++ channel_text channels) }
 {
-    match (channels.full, channels.low) {
-        (1, 0) => out.push_str("mono"),
-        (2, 0) => out.push_str("stereo"),
-        (full, low) => {
-            push_number(u64::from(full), out)?;
-            out.push_str(".")?;
-            push_number(u64::from(low), out)
-        }
+    if channels.low == 0 && channels.full == 1 {
+        return out.push_str("mono");
     }
+    if channels.low == 0 && channels.full == 2 {
+        return out.push_str("stereo");
+    }
+    push_number(u64::from(channels.full), out)?;
+    out.push_str(".")?;
+    push_number(u64::from(channels.low), out)
 }

@@ -4,7 +4,7 @@ ghost use Rattle.std.specs.Prelude.{◌≡◌, ◌*◌, ◌<◌, ◌^◌, [], le
 ghost use Rattle.mp4_info.specs.Durations.{duration_of, edited_time, endless_ticks, is_endless, thousandths};
 ghost use Rattle.mp4_samples.specs.Edits.{edit_list, edits_of, has_long_times, minus_one};
 
-use crate::rounding::rounded;
+use crate::rounding::{product, rounded};
 use mp4_tables::{ElstBox, ElstEntry};
 
 /// The one edit of a track without an edit list. It presents the media starting at time 0.
@@ -63,14 +63,6 @@ fn is_endless(is_long: bool, entry: ElstEntry) -> bool
         && entry.media_rate != 0
 }
 
-/// Returns `time` in ticks, where `ticks` is the number of ticks in a unit of `time`.
-fn ticks_of(time: u64, ticks: u32) -> u128
-    ensures value { result ≡ time * ticks }
-    ensures below { result < 2 ^ 96 }
-{
-    u128::from(time) * u128::from(ticks)
-}
-
 /// Returns the number of ticks for which `entry`, the last edit, shows the media beyond its duration: if it is endless,
 /// up to `end`, where the media end.
 fn endless_ticks(is_long: bool, entry: ElstEntry, movie_timescale: u32, end: u64) -> u128
@@ -83,7 +75,7 @@ fn endless_ticks(is_long: bool, entry: ElstEntry, movie_timescale: u32, end: u64
     ensures below { result < 2 ^ 96 }
 {
     if is_endless(is_long, entry) {
-        ticks_of(end.saturating_sub(entry.media_time), movie_timescale)
+        product(end.saturating_sub(entry.media_time), movie_timescale)
     } else {
         0
     }
@@ -102,7 +94,7 @@ pub fn duration_of(
 {
     let entries = entries_of(elst);
     let last = entries[entries.len() - 1];
-    ticks_of(edited_time(entries), media_timescale)
+    product(edited_time(entries), media_timescale)
         + endless_ticks(has_long_times(elst), last, movie_timescale, end)
 }
 

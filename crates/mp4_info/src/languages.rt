@@ -32,5 +32,5 @@ pub fn language_of<'a>(elng: Option<&'a Elng>, letters: &'a [u8]) -> &'a [u8]
     ensures { result.now ≡ language_of elng.entry letters.now }
 {
     let tag = tag_of(elng);
-    if tag.len() > 0 { tag } else { letters }
+    if tag.is_empty() { letters } else { tag }
 }

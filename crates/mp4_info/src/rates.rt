@@ -3,7 +3,7 @@
 ghost use Rattle.std.specs.Prelude.{◌≡◌};
 ghost use Rattle.mp4_info.specs.Rates.{average_rate, bit_rate, constant_rate, first_entry, frame_rate, is_steady};
 
-use crate::rounding::rounded;
+use crate::rounding::{product, rounded};
 use crate::totals::sample_count;
 use mp4_tables::SttsEntry;
 
@@ -35,9 +35,10 @@ fn is_steady(delta: u32, entries: &[SttsEntry]) -> bool
 fn first_delta(entries: &[SttsEntry]) -> u32
     ensures { result ≡ (first_entry entries.now).sample_delta }
 {
-    match entries.is_empty() {
-        true => 0,
-        false => entries[0].sample_delta,
+    if entries.is_empty() {
+        0
+    } else {
+        entries[0].sample_delta
     }
 }
 
@@ -63,7 +64,7 @@ fn average_rate(timescale: u32, samples: u64, end: u64) -> Option<FrameRate>
         return None;
     }
     Some(FrameRate {
-        frames: u128::from(samples) * u128::from(timescale),
+        frames: product(samples, timescale),
         units: end,
         is_constant: false,
     })
@@ -86,14 +87,13 @@ pub fn frame_rate(timescale: u32, entries: &[SttsEntry], end: u64) -> Option<Fra
     }
 }
 
-/// Returns the number of bits of a second, for `bytes` bytes of samples that end at `end`, in the timescale of the media.
-/// The number is rounded, and up from a half. Returns `None` if the media end at 0.
+/// Returns the number of bits of a second, on average, for `bytes` bytes of samples that end at `end`, in the timescale
+/// of the media. The number is rounded, and up from a half. Returns `None` if the media end at 0.
 pub fn bit_rate(timescale: u32, bytes: u64, end: u64) -> Option<u128>
     ensures { result ≡ bit_rate timescale bytes end }
 {
     if end == 0 {
         return None;
     }
-    let bits = 8 * u128::from(bytes) * u128::from(timescale);
-    Some(rounded(bits, end))
+    Some(rounded(8 * product(bytes, timescale), end))
 }
