@@ -152,7 +152,8 @@ def track(data, file, trak, movie_scale):
     edits = content(at_path(data, trak, b"edts", b"elst"))
     code, inside, children = entry_of(data, table, handler)
     found = {
-        "track_id": number_, "handler": handler.decode("latin-1"), "codec": None if code is None else string_of(code, children),
+        "track_id": number_, "handler": handler.decode("latin-1"),
+        "codec": None if code is None else string_of(code, children),
         "duration": duration_of(list(edits_of(edits)) if edits else [], movie_scale, scale, end),
         "media_duration": Fraction(end, scale), "samples": len(samples),
         "key_frames": sum(bool(sample[5]) for sample in samples), "bytes": total,

@@ -5,9 +5,9 @@ ghost use Rattle.std.specs.Option.{option_map};
 ghost use Rattle.mp4_frame.specs.FourCC.{four_cc_of};
 ghost use Rattle.mp4_frame.specs.declared.codes.TheConstants as names;
 ghost use Rattle.mp4_info.specs.Avc.{avc_string};
-ghost use Rattle.mp4_info.specs.Codecs.{audio_in, av1_in, av1_text, avc_in, by_config, clear_code};
-ghost use Rattle.mp4_info.specs.Codecs.{codec_in, colours_of, entry_in, entry_string, family_of, first_entry, hevc_in, in_entry};
-ghost use Rattle.mp4_info.specs.Codecs.{Readings, is_encrypted, original, string_in, vp_in};
+ghost use Rattle.mp4_info.specs.Codecs.{audio_in, av1_in, av1_text, avc_in, by_config, clear_code, codec_in};
+ghost use Rattle.mp4_info.specs.Codecs.{colours_of, entry_in, entry_string, family_of, first_entry, hevc_in};
+ghost use Rattle.mp4_info.specs.Codecs.{in_entry, is_encrypted, original, Readings, string_in, vp_in};
 ghost use Rattle.mp4_info.specs.Hevc.{hevc_string};
 ghost use Rattle.mp4_info.specs.Mpeg4.{audio_string};
 ghost use Rattle.mp4_info.specs.Vp.{vp_string};
@@ -116,8 +116,8 @@ fn entry_in<'a>(stbl: &'a [TreeBox]) -> Option<BoxLocation<'a>>
     }
 }
 
-/// Returns the value of the first box with `code` in the level of `depth` in which `boxes` begins, or `None` if there is
-/// none.
+/// Returns the value of the first box with `code` in the level of `depth` in which `boxes` begins. Returns `None` if
+/// there is no such box.
 fn value_in<B: ReadBox + Drop, S: Source>(
     alloc: Global,
     walk: &mut BoxWalk<S>,
@@ -142,8 +142,8 @@ fn value_in<B: ReadBox + Drop, S: Source>(
     }
 }
 
-/// Returns the value of the first box with `code` in a sample entry, or `None` if there is none. `entry` begins with the
-/// boxes inside the entry.
+/// Returns the value of the first box with `code` in a sample entry, or `None` without such a box. `entry` begins with
+/// the boxes inside the entry.
 fn in_entry<B: ReadBox + Drop, S: Source>(
     alloc: Global,
     walk: &mut BoxWalk<S>,
