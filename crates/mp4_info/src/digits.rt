@@ -4,7 +4,6 @@ ghost use Rattle.std.specs.Prelude.{◌≡◌, ◌++◌, OnOk, string_bytes};
 ghost use Rattle.mp4_info.specs.Digits.{bit, element, hexadecimal, two_digits, wide_element, zero_before};
 
 use mp4_show::{Result, push_number};
-use std::fmt::Write;
 
 /// Returns the zero before a number of one digit, or nothing before a longer one.
 fn zero_before(number: u64) -> &'static str
