@@ -1,5 +1,4 @@
-"""Compares the strings of codecs in tests/rows/codec_strings.txt, which were published or worked out by hand, with the
-second computation of them."""
+"""Compares the strings in tests/rows/codec_strings.txt, published or worked out, with those of codec_strings.py."""
 
 import unittest
 
