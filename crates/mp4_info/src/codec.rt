@@ -13,12 +13,12 @@ ghost use Rattle.mp4_info.specs.Mpeg4.{audio_string};
 ghost use Rattle.mp4_info.specs.Vp.{vp_string};
 ghost use Rattle.mp4_movie.specs.Levels.{after_of, first_in, found_of};
 ghost use Rattle.mp4_movie.specs.Problems.{ReturnsFor};
-ghost use Rattle.mp4_movie.specs.Reads.{optional};
 ghost use Rattle.mp4_movie.specs.Trafs.{ReturnsForAs};
 ghost use Rattle.mp4_shown_json.specs.Tokens.{code_text};
 
 use crate::av1::push_av1;
 use crate::avc::push_avc;
+use crate::found::optional;
 use crate::hevc::push_hevc;
 use crate::mpeg4::push_mpeg4_audio;
 use crate::vp::push_vp;
@@ -30,7 +30,7 @@ use mp4_extra_media::hvcc::HvccBox;
 use mp4_extra_segments::frma::FrmaBox;
 use mp4_frame::codes::{AV01, AVC1, AVC2, AVC3, AVC4, ENCA, ENCV, HEV1, HVC1, MP4A, VP08, VP09};
 use mp4_frame::{FourCC, ReadBox, codes};
-use mp4_movie::{BoxError, BoxLocation, MovieError, first_in, read_at};
+use mp4_movie::{BoxLocation, MovieError, first_in};
 use mp4_shown_json::push_latin;
 use mp4_sound::EsdsBox;
 use mp4_walk::{BoxWalk, Source, TreeBox};
@@ -116,32 +116,6 @@ fn entry_in<'a>(stbl: &'a [TreeBox]) -> Option<BoxLocation<'a>>
     }
 }
 
-/// Returns the value of the first box with `code` in the level of `depth` in which `boxes` begins. Returns `None` if
-/// there is no such box.
-fn value_in<B: ReadBox + Drop, S: Source>(
-    alloc: Global,
-    walk: &mut BoxWalk<S>,
-    boxes: &[TreeBox],
-    depth: u64,
-    code: u32,
-) -> Result<Option<B>, MovieError>
-    ensures value { ReturnsFor walk.old.bytes result
-        (λ file. optional B.reads code file (first_in depth (four_cc_of code) boxes.now)) }
-    ensures kept { walk.new ≡ walk.old }
-{
-    let Some(place) = first_in(boxes, depth, code) else {
-        return Ok(None);
-    };
-    match read_at::<B, S>(alloc, walk, &place.found)? {
-        Ok(value) => Ok(Some(value)),
-        Err(error) => Err(MovieError::Box(BoxError::Fault {
-            code: FourCC::from(code),
-            position: place.found.position,
-            error,
-        })),
-    }
-}
-
 /// Returns the value of the first box with `code` in a sample entry, or `None` without such a box. `entry` begins with
 /// the boxes inside the entry.
 fn in_entry<B: ReadBox + Drop, S: Source>(
@@ -153,7 +127,7 @@ fn in_entry<B: ReadBox + Drop, S: Source>(
     ensures value { ReturnsFor walk.old.bytes result (λ file. in_entry B.reads code file entry.now) }
     ensures kept { walk.new ≡ walk.old }
 {
-    value_in::<B, S>(alloc, walk, entry, DEPTH, code)
+    optional::<B, S>(alloc, walk, entry, DEPTH, code)
 }
 
 /// Returns `code` as text.
@@ -380,7 +354,7 @@ fn clear_code<S: Source>(
         return Ok(code);
     }
     let inside = protection_in(entry);
-    let frma = value_in::<FrmaBox, S>(alloc, walk, inside, DEPTH + 1, codes::FRMA)?;
+    let frma = optional::<FrmaBox, S>(alloc, walk, inside, DEPTH + 1, codes::FRMA)?;
     Ok(original(code, frma))
 }
 
