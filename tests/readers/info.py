@@ -1,6 +1,6 @@
 """Computes what `mp4inspect info` reports about a file a second time, by ISO/IEC 14496-12 and QuickTime's format only.
-`info` returns it as the JSON has it. The samples are those of `samples.py`, and the strings of codecs those of
-`codec_strings.py`. Numbers are exact; `rounded` gives those for people."""
+`info` returns the values, with exact numbers, and `lines` the text. The samples are those of `samples.py`, and the
+strings of codecs those of `codec_strings.py`."""
 
 from fractions import Fraction
 
@@ -192,3 +192,64 @@ def info(data):
         "duration": max((found["duration"] for found in tracks), default=Fraction(0)), "stated": stated,
         "tracks": tracks,
     }
+
+
+KINDS = {"vide": "video", "soun": "audio", "subt": "subtitles", "sbtl": "subtitles", "text": "text", "clcp": "captions",
+         "tmcd": "timecode", "meta": "metadata", "hint": "hint", "auxv": "auxiliary video", "pict": "picture"}
+
+
+def thousandths(value):
+    """Returns `value` with three decimals, rounded, and up from a half."""
+    count = rounded(value, 1000)
+    return f"{count // 1000}.{count % 1000:03}"
+
+
+def counted(count, word):
+    return f"{count} {word}" + ("" if count == 1 else "s")
+
+
+def picture(found):
+    """Returns the words about pictures: their size, and the rate of frames, without zeros at the end."""
+    size = f"{found['width']}x{found['height']}"
+    if found["rotation"]:
+        size += f" rotated {found['rotation']}"
+    if not found["frame_rate"]:
+        return size
+    rate, is_constant = found["frame_rate"]
+    return f"{size}  {'' if is_constant else '~'}{thousandths(rate).rstrip('0').rstrip('.')} fps"
+
+
+def sound(found):
+    rate = f"{found['sample_rate']:g} Hz"
+    return rate if found["channels"] is None else f"{rate} {found['channels']}"
+
+
+def track_words(found):
+    """Returns the columns of the line of a track after its kind."""
+    about = picture(found) if "width" in found else sound(found) if "sample_rate" in found else ""
+    frames = counted(found["samples"], "sample")
+    if found["key_frames"] != found["samples"]:
+        frames += ", " + counted(found["key_frames"], "key frame")
+    rate = "" if found["bit_rate"] is None else f"{rounded(Fraction(found['bit_rate'], 1000))} kb/s"
+    codec = found["codec"] or "-"
+    if "encryption" in found:
+        codec += f" ({found['encryption']})"
+    return [codec, about, thousandths(found["duration"]) + " s", rate, found["language"], frames]
+
+
+def lines(name, data):
+    """Returns the text about a file."""
+    found = info(data)
+    brands = list(dict.fromkeys(brand.strip() for brand in found["brands"]))
+    words = ["QuickTime" if found["brands"][:1] == ["qt  "] else "MP4"]
+    if brands:
+        words[0] += f" ({', '.join(brands)})"
+    words.append("fragmented" if found["fragmented"] else "progressive")
+    if found["moov_first"] is not None:
+        words.append(f"moov {'before' if found['moov_first'] else 'after'} the media data")
+    words += [thousandths(found["duration"]) + " s", f"{rounded(Fraction(found['size'], 1000))} kB"]
+    rows = [[KINDS.get(each["handler"], each["handler"]), *track_words(each)] for each in found["tracks"]]
+    rows = [[f"{number} {row[0]}", *row[1:]] for number, row in enumerate(rows, 1)]
+    widths = [max(map(len, column)) for column in zip(*rows)]
+    return [f"{name}  {', '.join(words)}"] + [
+        "  " + "  ".join(cell.ljust(width) for cell, width in zip(row, widths) if width).rstrip() for row in rows]
