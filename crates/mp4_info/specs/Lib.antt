@@ -5,6 +5,7 @@ pub mod Av1
 pub mod Vp
 pub mod Mpeg4
 pub mod Dolby
+pub mod Visual
 pub mod Rounding
 pub mod Durations
 pub mod Totals

@@ -15,6 +15,7 @@ mod rates;
 mod rotation;
 mod rounding;
 mod totals;
+mod visual;
 mod vp;
 
 pub use av1::push_av1;
@@ -29,4 +30,5 @@ pub use rates::{FrameRate, bit_rate, frame_rate};
 pub use rotation::rotation_of;
 pub use rounding::rounded;
 pub use totals::{key_frames, sample_bytes, sample_count};
+pub use visual::visual_level;
 pub use vp::push_vp;
