@@ -1,6 +1,6 @@
 """Computes what `mp4inspect info` reports about a file a second time, by ISO/IEC 14496-12 and QuickTime's format only.
-`info` returns the values, with exact numbers, and `lines` the text. The samples are those of `samples.py`, and the
-strings of codecs those of `codec_strings.py`."""
+`info` returns the values, with exact numbers, `lines` the text, and `as_json` an object of the JSON. The samples are
+those of `samples.py`, and the strings of codecs those of `codec_strings.py`."""
 
 from fractions import Fraction
 
@@ -253,3 +253,25 @@ def lines(name, data):
     widths = [max(map(len, column)) for column in zip(*rows)]
     return [f"{name}  {', '.join(words)}"] + [
         "  " + "  ".join(cell.ljust(width) for cell, width in zip(row, widths) if width).rstrip() for row in rows]
+
+
+def seconds(value):
+    """Returns a number of seconds with three decimals, and the fraction that it is rounded from."""
+    return {"seconds": rounded(value, 1000) / 1000, "numerator": value.numerator, "denominator": value.denominator}
+
+
+def as_json(name, data):
+    """Returns the object of a file in the JSON."""
+    found = info(data)
+    stated = found["stated"]
+    tracks = []
+    for each in found["tracks"]:
+        rate = each.pop("frame_rate", None)
+        shown = dict(each, duration=seconds(each["duration"]), media_duration=seconds(each["media_duration"]))
+        if rate:
+            shown["frame_rate"] = {"per_second": rounded(rate[0], 1000) / 1000, "numerator": rate[0].numerator,
+                                   "denominator": rate[0].denominator, "constant": rate[1]}
+        tracks.append(shown)
+    return {"file": name, "size": found["size"], "brands": found["brands"], "fragmented": found["fragmented"],
+            "moov_first": found["moov_first"], "duration": seconds(found["duration"]),
+            "stated_duration": stated and {"duration": stated[1], "timescale": stated[0]}, "tracks": tracks}
