@@ -1,8 +1,7 @@
 -- The codec of a track: the string of its first sample entry (RFC 6381), by the boxes in the entry.
-use Rattle.std.specs.Prelude.{ℕ, ◌==◌, ◌||◌, Bool, List, [], ◌∷◌, drop, slice_get, Result, Ok, Err, None, Some}
+use Rattle.std.specs.Prelude.{ℕ, ◌==◌, ◌||◌, Bool, List, [], ◌∷◌, drop, slice_get, Result, Ok, None, Some}
 use Rattle.std.specs.Prelude.{if◌then◌else◌}
 use Rattle.std.specs.List.{list_any}
-use Rattle.std.specs.Option.{option_or}
 use Rattle.std.specs.declared.option.Option.{Option}
 use Rattle.mp4_declared.specs.declared.typed.OfType.{OfType}
 use Rattle.mp4_declared.specs.declared.typed.OfType.TheVariants as of_type

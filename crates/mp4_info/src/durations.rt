@@ -1,6 +1,6 @@
 //! The duration of a track.
 
-ghost use Rattle.std.specs.Prelude.{◌≡◌, ◌*◌, ◌<◌, ◌^◌, [], length};
+ghost use Rattle.std.specs.Prelude.{◌≡◌, ◌<◌, ◌^◌, [], length};
 ghost use Rattle.mp4_info.specs.Durations.{duration_of, edited_time, endless_ticks, is_endless, thousandths};
 ghost use Rattle.mp4_samples.specs.Edits.{edit_list, edits_of, has_long_times, minus_one};
 
