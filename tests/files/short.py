@@ -1,5 +1,5 @@
-"""Short files, and the output of `mp4inspect` over each file. The output was typed by hand, by docs/PROGRAMS.md ("The
-tree") and the standards. A file shows one thing, so that only one wrong definition of
+"""Short files, and the lines that `mp4inspect` has to print for them. These lines were worked out from the section
+"The tree" of docs/PROGRAMS.md and from the standards. A file shows one thing, so that only one wrong definition of
 tests/prover/wrong-definitions.txt fails its test."""
 
 from tests.files.made import be, box, full, handler, sound, stsd, visual

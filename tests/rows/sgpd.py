@@ -55,18 +55,24 @@ def fields_of_known_groups():
     )
 
 
+# A description of samples that have a vector each, and its fields (ISO/IEC 23001-7, 6).
+OF_EACH_SAMPLE = u8(7, 0x19, 1, 8), counting(0x91, 0xA0)
+SHOWN_OF_EACH_SAMPLE = {
+    "reserved": 7, "crypt_byte_block": 1, "skip_byte_block": 9, "isProtected": 1, "Per_Sample_IV_Size": 8,
+    "KID": "9192939495969798999a9b9c9d9e9fa0",
+}
+
+
 def fields_of_encryption():
     """ISO/IEC 14496-12, 8.9.3. ISO/IEC 23001-7, 6."""
     constant = u8(0, 0x5A, 1, 0), counting(0x81, 0x90), u8(3), b"\xaa\xbb\xcc"
-    of_each_sample = u8(7, 0x19, 1, 8), counting(0x91, 0xA0)
     yield fields(
-        full(b"sgpd", b"seig", u32(2), *constant, *of_each_sample, version=0, flags=41),
+        full(b"sgpd", b"seig", u32(2), *constant, *OF_EACH_SAMPLE, version=0, flags=41),
         version=0, flags=41, grouping_type="seig", entry_count=2,
         entries=[
             {"crypt_byte_block": 5, "skip_byte_block": 10, "isProtected": 1, "Per_Sample_IV_Size": 0,
              "KID": "8182838485868788898a8b8c8d8e8f90", "constant_IV_size": 3, "constant_IV": "aabbcc"},
-            {"reserved": 7, "crypt_byte_block": 1, "skip_byte_block": 9, "isProtected": 1, "Per_Sample_IV_Size": 8,
-             "KID": "9192939495969798999a9b9c9d9e9fa0"},
+            SHOWN_OF_EACH_SAMPLE,
         ],
     )
 
@@ -75,15 +81,13 @@ def fields_of_no_encryption():
     """A description has a constant vector only if its samples are protected (ISO/IEC 23001-7, 6). The next one begins
     after its key."""
     clear = u8(0, 0x5A, 0, 0), counting(0x81, 0x90)
-    of_each_sample = u8(7, 0x19, 1, 8), counting(0x91, 0xA0)
     yield fields(
-        full(b"sgpd", b"seig", u32(2), *clear, *of_each_sample, version=0, flags=41),
+        full(b"sgpd", b"seig", u32(2), *clear, *OF_EACH_SAMPLE, version=0, flags=41),
         version=0, flags=41, grouping_type="seig", entry_count=2,
         entries=[
             {"crypt_byte_block": 5, "skip_byte_block": 10, "isProtected": 0, "Per_Sample_IV_Size": 0,
              "KID": "8182838485868788898a8b8c8d8e8f90"},
-            {"reserved": 7, "crypt_byte_block": 1, "skip_byte_block": 9, "isProtected": 1, "Per_Sample_IV_Size": 8,
-             "KID": "9192939495969798999a9b9c9d9e9fa0"},
+            SHOWN_OF_EACH_SAMPLE,
         ],
     )
 
