@@ -10,6 +10,7 @@ mod defaults;
 mod entries;
 mod equality;
 mod examples;
+mod extra;
 mod hev1;
 mod invalid_texts;
 mod iterator;

@@ -1,5 +1,5 @@
-//! Tests shapes of declared boxes that no box of `mp4_extra` has, mostly with boxes that no standard defines. Its tests
-//! also cover values that cannot be written, of these boxes and of those of `mp4_extra`.
+//! For tests: shapes of declared boxes that no box of `mp4_extra` has, mostly in boxes that no standard defines. Their
+//! tests are in `crates/test_boxes/src/tests/extra.rt`.
 #![tactic(auto)]
 
 mod checked;
@@ -19,6 +19,3 @@ pub use options::{OPTS, Options, OptionsBox};
 pub use parents::{TREP, Trep, TrepBox};
 pub use runs::{RUNS, Runs, RunsBox};
 pub use strings::{STRS, Strings, StringsBox};
-
-#[cfg(test)]
-mod tests;

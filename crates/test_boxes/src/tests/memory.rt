@@ -8,6 +8,7 @@ use mp4_stream::{
     AnyBox, BoxHeader, BoxType, Error, MfhdBox, WriteBox, write_box_header_ext, write_boxes,
     write_zeros,
 };
+use std::alloc::{AllocError, Global};
 use std::test::Fail;
 
 /// A call that appends bytes to a vector.
@@ -49,27 +50,68 @@ fn append<'a>(
     }
 }
 
+/// The effect of a call on a vector.
+enum Step {
+    /// It appended bytes.
+    Appended,
+    /// It was out of memory and left the length.
+    Refused,
+    /// Something else.
+    Wrong,
+}
+
+/// Makes this call, and returns what it did.
+fn step<'a>(call: Call, out: &mut Vec<u8, &'a LocalHeap>) -> Step {
+    let before = out.len();
+    match append(call, &MarkBox { mark: 1 }, out) {
+        Ok(_) if out.len() > before => Step::Appended,
+        Err(Error::OutOfMemory) if out.len() == before => Step::Refused,
+        _ => Step::Wrong,
+    }
+}
+
+/// Makes this call a hundred times. Returns whether one was refused, no call did something else than it should, and the
+/// vector keeps its first byte.
+fn is_refused(call: Call, heap: &LocalHeap) -> Result<bool, AllocError> {
+    let mut out = Vec::from_slice(heap, &[9])?;
+    let (mut is_refused, mut is_right) = (false, true);
+    for _ in 0..100 {
+        match step(call, &mut out) {
+            Step::Appended => {}
+            Step::Refused => is_refused = true,
+            Step::Wrong => is_right = false,
+        }
+    }
+    Ok(is_refused && is_right && out.first() == Some(&9))
+}
+
 #[test]
 fn a_refused_append_leaves_the_vector(rt: HostRuntime) -> Result<(), Fail> {
     for call in CALLS {
         let heap = LocalHeap::new(rt.alloc(), 256)?;
-        let mut out = Vec::from_slice(&heap, &[9])?;
-        let mut is_refused = false;
-        for _ in 0..100 {
-            let before = out.len();
-            match append(call, &MarkBox { mark: 1 }, &mut out) {
-                Ok(_) => assert!(rt; out.len() > before, "{call:?}"),
-                Err(Error::OutOfMemory) => {
-                    is_refused = true;
-                    assert_eq!(rt; out.len(), before, "{call:?}");
-                }
-                Err(_) => assert!(rt; false, "{call:?}"),
-            }
-        }
-        assert!(rt; is_refused, "{call:?}");
-        assert_eq!(rt; out.first(), Some(&9), "{call:?}");
+        assert!(rt; is_refused(call, &heap)?, "{call:?}");
     }
     Ok(())
+}
+
+/// Appends to `out` what can't be written: flags of 25 bits, a header of a box that is too large, a box, and a list
+/// whose last box is this box. Returns the kinds of the outcomes.
+fn append_unwritable<'a>(
+    alloc: Global,
+    out: &mut Vec<u8, &'a LocalHeap>,
+) -> Result<[Kind; 4], Error> {
+    let header = BoxHeader::new(BoxType::FreeBox, u64::MAX);
+    let flagged = MfhdBox {
+        version: 0,
+        flags: 1 << 24,
+        sequence_number: 1,
+    };
+    Ok([
+        kind_of(&write_box_header_ext(out, 0, 1 << 24)),
+        kind_of(&header.write(out)),
+        kind_of(&flagged.write_box(out)),
+        append_two(alloc, any_ftyp(alloc), AnyBox::MfhdBox(flagged), out)?,
+    ])
 }
 
 #[test]
@@ -77,21 +119,8 @@ fn an_unwritable_box_asks_for_no_memory(rt: HostRuntime) -> Result<(), Fail> {
     let heap = LocalHeap::new(rt.alloc(), 64)?;
     let mut out = Vec::new(&heap);
     assert_eq!(rt;
-        kind_of(&write_box_header_ext(&mut out, 0, 1 << 24)),
-        Kind::Invalid
-    );
-    let header = BoxHeader::new(BoxType::FreeBox, u64::MAX);
-    assert_eq!(rt; kind_of(&header.write(&mut out)), Kind::Invalid);
-    let flagged = MfhdBox {
-        version: 0,
-        flags: 1 << 24,
-        sequence_number: 1,
-    };
-    assert_eq!(rt; kind_of(&flagged.write_box(&mut out)), Kind::Invalid);
-    let (first, last) = (any_ftyp(rt.alloc()), AnyBox::MfhdBox(flagged));
-    assert_eq!(rt;
-        append_two(rt.alloc(), first, last, &mut out)?,
-        Kind::Invalid
+        append_unwritable(rt.alloc(), &mut out)?,
+        [Kind::Invalid; 4]
     );
     assert_eq!(rt; heap.used(), 0);
     Ok(())

@@ -1,10 +1,9 @@
 //! Boxes without lists.
 
-use crate::tests::{UNFIT, ending, ending_of};
-use crate::{Numbers, Options, Packed, Range, RangeBox};
+use crate::tests::extra::{Ending, ending, ending_of};
 use mp4_extra::{Ac3Config, Colr, Cslg, Dac3, Nclx, Nmhd, OfType, Prft, Schm};
 use mp4_stream::FourCC;
-use std::test::Fail;
+use test_extra::{Numbers, Options, Packed, Range, RangeBox};
 
 /// Makes a box of numbers. The parameters may be too large for their fields.
 fn numbers(medium: u32, kind: u8, level: u16) -> Numbers {
@@ -101,7 +100,7 @@ const SCHM: Schm = Schm {
 };
 
 #[test]
-fn numbers_that_do_not_fit(rt: HostRuntime) -> Result<(), Fail> {
+fn numbers_that_do_not_fit(rt: HostRuntime) {
     let alloc = rt.alloc();
     let colr = Colr {
         colour: OfType::Own(NCLX),
@@ -124,11 +123,10 @@ fn numbers_that_do_not_fit(rt: HostRuntime) -> Result<(), Fail> {
         ending(alloc, PRFT),
         ending(alloc, SCHM),
     ];
-    assert_eq!(rt; endings, [UNFIT; 16]);
+    assert_eq!(rt; endings, [Ending::Unfit; 16]);
     let written = [
         ending_of(alloc, &range(2, 2, 1)),
         ending(alloc, cslg(-(1 << 31), (1 << 31) - 1)),
     ];
-    assert_eq!(rt; written, ["ok"; 2]);
-    Ok(())
+    assert_eq!(rt; written, [Ending::Written; 2]);
 }

@@ -1,13 +1,18 @@
 //! The fields of sample entries in trees.
 
-use crate::tests::bytes_of;
+use crate::tests::extra::bytes_of;
 use mp4_box_tree::{
     AudioFields, AudioFirst, AudioSecond, AudioVersion, Container, VisualFields,
     data_reference_index,
 };
-use mp4_stream::{FixedPointU16, KeptBox, Result as Made};
-use std::alloc::Global;
-use std::test::Fail;
+use mp4_stream::{FixedPointU16, KeptBox};
+use std::alloc::{AllocError, Global};
+
+/// The outcome of a check, unless memory ran out.
+type Outcome = Result<bool, AllocError>;
+
+/// The outcome of a check that passes.
+const PASSES: Outcome = Ok(true);
 
 /// `hvc1`, a code of video.
 const HVC1: u32 = 0x6876_6331;
@@ -67,7 +72,7 @@ fn front(bytes: &[u8], length: usize) -> &[u8] {
 }
 
 /// Makes an entry with this `code` and these `fields`, without boxes.
-fn entry(alloc: Global, code: u32, fields: &[u8]) -> Made<Container<KeptBox>> {
+fn entry(alloc: Global, code: u32, fields: &[u8]) -> Result<Container<KeptBox>, AllocError> {
     Ok(Container {
         code,
         fields: bytes_of(alloc, fields)?,
@@ -76,22 +81,22 @@ fn entry(alloc: Global, code: u32, fields: &[u8]) -> Made<Container<KeptBox>> {
 }
 
 /// Returns whether an entry with this `code` and these `bytes` has the video fields `fields`.
-fn is_video(alloc: Global, code: u32, bytes: &[u8], fields: Option<VisualFields>) -> Made<bool> {
+fn is_video(alloc: Global, code: u32, bytes: &[u8], fields: Option<VisualFields>) -> Outcome {
     Ok(entry(alloc, code, bytes)?.visual() == fields)
 }
 
 /// Returns whether an entry with this `code` and these `bytes` has the audio fields `fields`.
-fn is_audio(alloc: Global, code: u32, bytes: &[u8], fields: Option<AudioFields>) -> Made<bool> {
+fn is_audio(alloc: Global, code: u32, bytes: &[u8], fields: Option<AudioFields>) -> Outcome {
     Ok(entry(alloc, code, bytes)?.sound() == fields)
 }
 
 /// Returns whether the video fields `fields` are written as `bytes`.
-fn video_is(alloc: Global, fields: VisualFields, bytes: &[u8]) -> Made<bool> {
+fn video_is(alloc: Global, fields: VisualFields, bytes: &[u8]) -> Outcome {
     Ok(fields.to_bytes(alloc)?.as_slice() == bytes)
 }
 
 /// Returns whether the audio fields `fields` are written as `bytes`.
-fn audio_is(alloc: Global, fields: AudioFields, bytes: &[u8]) -> Made<bool> {
+fn audio_is(alloc: Global, fields: AudioFields, bytes: &[u8]) -> Outcome {
     Ok(fields.to_bytes(alloc)?.as_slice() == bytes)
 }
 
@@ -145,53 +150,59 @@ const OF_SECOND: AudioVersion = AudioVersion::Second(AudioSecond {
 });
 
 #[test]
-fn fields_of_video(rt: HostRuntime) -> Result<(), Fail> {
+fn fields_of_video(rt: HostRuntime) {
     let alloc = rt.alloc();
-    assert!(rt; is_video(alloc, HVC1, VISUAL, Some(visual()))?);
-    assert!(rt; is_video(alloc, HVC1, RESERVED, Some(visual()))?);
-    assert!(rt; is_video(alloc, HVC1, front(VISUAL, 77), None)?);
-    assert!(rt; is_video(alloc, HVC1, LONGER, None)?);
-    assert!(rt; is_video(alloc, OPUS, VISUAL, None)?);
-    assert!(rt; is_video(alloc, TEXT, VISUAL, None)?);
-    assert!(rt; is_audio(alloc, HVC1, VISUAL, None)?);
-    assert!(rt; video_is(alloc, visual(), VISUAL)?);
-    Ok(())
+    let checks = [
+        is_video(alloc, HVC1, VISUAL, Some(visual())),
+        is_video(alloc, HVC1, RESERVED, Some(visual())),
+        is_video(alloc, HVC1, front(VISUAL, 77), None),
+        is_video(alloc, HVC1, LONGER, None),
+        is_video(alloc, OPUS, VISUAL, None),
+        is_video(alloc, TEXT, VISUAL, None),
+        is_audio(alloc, HVC1, VISUAL, None),
+        video_is(alloc, visual(), VISUAL),
+    ];
+    assert!(rt; checks == [PASSES; 8]);
 }
 
 #[test]
-fn fields_of_audio(rt: HostRuntime) -> Result<(), Fail> {
+fn fields_of_audio(rt: HostRuntime) {
     let alloc = rt.alloc();
     let zero = sound(AudioVersion::Zero);
-    assert!(rt; is_audio(alloc, OPUS, ZERO, Some(zero))?);
-    assert!(rt; is_audio(alloc, OPUS, FIRST, Some(sound(OF_FIRST)))?);
-    assert!(rt; is_audio(alloc, OPUS, SECOND, Some(sound(OF_SECOND)))?);
-    assert!(rt; is_audio(alloc, OPUS, THIRD, Some(zero))?);
-    assert!(rt; audio_is(alloc, zero, ZERO)?);
-    assert!(rt; audio_is(alloc, sound(OF_FIRST), FIRST)?);
-    assert!(rt; audio_is(alloc, sound(OF_SECOND), SECOND)?);
-    Ok(())
+    let checks = [
+        is_audio(alloc, OPUS, ZERO, Some(zero)),
+        is_audio(alloc, OPUS, FIRST, Some(sound(OF_FIRST))),
+        is_audio(alloc, OPUS, SECOND, Some(sound(OF_SECOND))),
+        is_audio(alloc, OPUS, THIRD, Some(zero)),
+        audio_is(alloc, zero, ZERO),
+        audio_is(alloc, sound(OF_FIRST), FIRST),
+        audio_is(alloc, sound(OF_SECOND), SECOND),
+    ];
+    assert!(rt; checks == [PASSES; 7]);
 }
 
 #[test]
-fn audio_of_no_version(rt: HostRuntime) -> Result<(), Fail> {
+fn audio_of_no_version(rt: HostRuntime) {
     let alloc = rt.alloc();
-    assert!(rt; is_audio(alloc, OPUS, front(ZERO, 9), None)?);
-    assert!(rt; is_audio(alloc, OPUS, front(ZERO, 27), None)?);
-    assert!(rt; is_audio(alloc, OPUS, front(FIRST, 28), None)?);
-    assert!(rt; is_audio(alloc, OPUS, front(FIRST, 43), None)?);
-    assert!(rt; is_audio(alloc, OPUS, front(SECOND, 44), None)?);
-    assert!(rt; is_audio(alloc, OPUS, front(SECOND, 63), None)?);
-    assert!(rt; is_audio(alloc, HVC1, ZERO, None)?);
-    assert!(rt; is_audio(alloc, HVC1, FIRST, None)?);
-    assert!(rt; is_audio(alloc, HVC1, SECOND, None)?);
-    assert!(rt; is_audio(alloc, TEXT, ZERO, None)?);
-    assert!(rt; is_audio(alloc, TEXT, FIRST, None)?);
-    assert!(rt; is_audio(alloc, TEXT, SECOND, None)?);
-    Ok(())
+    let checks = [
+        is_audio(alloc, OPUS, front(ZERO, 9), None),
+        is_audio(alloc, OPUS, front(ZERO, 27), None),
+        is_audio(alloc, OPUS, front(FIRST, 28), None),
+        is_audio(alloc, OPUS, front(FIRST, 43), None),
+        is_audio(alloc, OPUS, front(SECOND, 44), None),
+        is_audio(alloc, OPUS, front(SECOND, 63), None),
+        is_audio(alloc, HVC1, ZERO, None),
+        is_audio(alloc, HVC1, FIRST, None),
+        is_audio(alloc, HVC1, SECOND, None),
+        is_audio(alloc, TEXT, ZERO, None),
+        is_audio(alloc, TEXT, FIRST, None),
+        is_audio(alloc, TEXT, SECOND, None),
+    ];
+    assert!(rt; checks == [PASSES; 12]);
 }
 
 #[test]
-fn data_references(rt: HostRuntime) -> Result<(), Fail> {
+fn reference_indexes(rt: HostRuntime) {
     assert_eq!(rt;
         data_reference_index(b"\xe1\xe2\xe3\xe4\xe5\xe6\x81\x82\x83"),
         Some(0x8182)
@@ -199,5 +210,4 @@ fn data_references(rt: HostRuntime) -> Result<(), Fail> {
     assert_eq!(rt; data_reference_index(b"\0\0\0\0\0\0\x81\x82"), Some(0x8182));
     assert_eq!(rt; data_reference_index(b"\0\0\0\0\0\0\x81"), None);
     assert_eq!(rt; data_reference_index(b""), None);
-    Ok(())
 }

@@ -1,12 +1,11 @@
 //! Boxes that hold boxes.
 
-use crate::tests::{UNFIT, bytes_of, ending, ending_of};
-use crate::{Inner, Outer, Trep};
+use crate::tests::extra::{Ending, bytes_of, ending, ending_of};
 use mp4_box_tree::DeclaredContainer;
+use mp4_stream::KeptBox;
 use mp4_stream::author::Declared;
-use mp4_stream::{KeptBox, Result as Made};
-use std::alloc::Global;
-use std::test::Fail;
+use std::alloc::{AllocError, Global};
+use test_extra::{Inner, Outer, Trep};
 
 /// A `trep` inside a `trep`.
 type Nested = DeclaredContainer<Trep, DeclaredContainer<Trep, KeptBox>>;
@@ -21,7 +20,7 @@ fn trep(flags: u32) -> Trep {
 }
 
 /// Writes a `trep` with the flags `outer` and a `trep` with the flags `inner` inside, and returns the ending.
-fn nested(alloc: Global, outer: u32, inner: u32) -> Made<&'static str> {
+fn nested(alloc: Global, outer: u32, inner: u32) -> Result<Ending, AllocError> {
     let mut boxes = Vec::new(alloc);
     boxes.push(DeclaredContainer::new(trep(inner), Vec::new(alloc).into()))?;
     let value = Nested::new(trep(outer), boxes.into());
@@ -29,7 +28,7 @@ fn nested(alloc: Global, outer: u32, inner: u32) -> Made<&'static str> {
 }
 
 /// Writes a box with an inner box with this `name`, and returns the ending.
-fn outer(alloc: Global, name: &[u8]) -> Made<&'static str> {
+fn outer(alloc: Global, name: &[u8]) -> Result<Ending, AllocError> {
     let name = bytes_of(alloc, name)?;
     let inner = Declared::new(Inner { name, number: 0 });
     Ok(ending(
@@ -43,15 +42,21 @@ fn outer(alloc: Global, name: &[u8]) -> Made<&'static str> {
 }
 
 #[test]
-fn boxes_in_boxes_that_do_not_fit(rt: HostRuntime) -> Result<(), Fail> {
+fn boxes_in_boxes_that_do_not_fit(rt: HostRuntime) {
     let alloc = rt.alloc();
     let endings = [
-        nested(alloc, 0xFF_FFFF, 0xFF_FFFF)?,
-        nested(alloc, 1 << 24, 0)?,
-        nested(alloc, 0, 1 << 24)?,
-        outer(alloc, &[0x81; 255])?,
-        outer(alloc, &[0x81; 256])?,
+        nested(alloc, 0xFF_FFFF, 0xFF_FFFF),
+        nested(alloc, 1 << 24, 0),
+        nested(alloc, 0, 1 << 24),
+        outer(alloc, &[0x81; 255]),
+        outer(alloc, &[0x81; 256]),
     ];
-    assert_eq!(rt; endings, ["ok", UNFIT, UNFIT, "ok", UNFIT]);
-    Ok(())
+    let expected = [
+        Ok(Ending::Written),
+        Ok(Ending::Unfit),
+        Ok(Ending::Unfit),
+        Ok(Ending::Written),
+        Ok(Ending::Unfit),
+    ];
+    assert!(rt; endings == expected);
 }

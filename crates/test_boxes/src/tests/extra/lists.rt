@@ -1,18 +1,26 @@
 //! Boxes with lists. A function for each box makes it, writes it and returns the ending.
 
-use crate::tests::{UNFIT, bytes_of, ending};
-use crate::{Group, Line, Lines, Moment, Nested, Packed, Runs, Strings};
+use crate::tests::extra::{Ending, bytes_of, ending};
 use mp4_extra::{
     Av1Config, Av1c, Colr, OfType, Pssh, Sbgp, SbgpEntry, Schm, Sdtp, SdtpEntry, Sidx, SidxEntry,
     Tenc, TencPattern,
 };
 use mp4_extra_media::colr::NCLX;
-use mp4_stream::{Entries, FourCC, Result as Made};
-use std::alloc::Global;
-use std::test::Fail;
+use mp4_stream::{Entries, FourCC};
+use std::alloc::{AllocError, Global};
+use test_extra::{Group, Line, Lines, Moment, Nested, Packed, Runs, Strings};
+
+/// The ending of a box, unless memory ran out before it was written.
+type Outcome = Result<Ending, AllocError>;
+
+/// The outcome of a box that is written.
+const WRITTEN: Outcome = Ok(Ending::Written);
+
+/// The outcome of a box with a value that does not fit its field.
+const UNFIT: Outcome = Ok(Ending::Unfit);
 
 /// Writes a profile of four bits to a field of three.
-fn av1c(alloc: Global) -> Made<&'static str> {
+fn av1c(alloc: Global) -> Outcome {
     let config = Av1Config {
         seq_profile: 8,
         ..Av1Config::default()
@@ -28,13 +36,13 @@ fn av1c(alloc: Global) -> Made<&'static str> {
 }
 
 /// Writes the type `nclx` without its numbers.
-fn colr(alloc: Global) -> Made<&'static str> {
+fn colr(alloc: Global) -> Outcome {
     let colour = OfType::Other(NCLX, bytes_of(alloc, b"\x81\x82\x83")?);
     Ok(ending(alloc, Colr { colour }))
 }
 
 /// Writes a number of three bits to a field of two.
-fn sdtp(alloc: Global) -> Made<&'static str> {
+fn sdtp(alloc: Global) -> Outcome {
     let sample = SdtpEntry {
         sample_depends_on: 4,
         ..SdtpEntry::default()
@@ -51,7 +59,7 @@ fn sdtp(alloc: Global) -> Made<&'static str> {
 }
 
 /// Writes a box with this `version` and `grouping_type_parameter`.
-fn sbgp(alloc: Global, version: u8, grouping_type_parameter: Option<u32>) -> Made<&'static str> {
+fn sbgp(alloc: Global, version: u8, grouping_type_parameter: Option<u32>) -> Outcome {
     let entries = Vec::from_slice(alloc, &[SbgpEntry::default()])?.into();
     Ok(ending(
         alloc,
@@ -68,7 +76,7 @@ fn sbgp(alloc: Global, version: u8, grouping_type_parameter: Option<u32>) -> Mad
 }
 
 /// Writes an address without its flag.
-fn schm(alloc: Global) -> Made<&'static str> {
+fn schm(alloc: Global) -> Outcome {
     let scheme_uri = Some(bytes_of(alloc, b"uv\0")?);
     Ok(ending(
         alloc,
@@ -85,7 +93,7 @@ fn schm(alloc: Global) -> Made<&'static str> {
 }
 
 /// Writes a box with this `version` and these `key_ids`.
-fn pssh(alloc: Global, version: u8, key_ids: Option<Entries<[u8; 16]>>) -> Made<&'static str> {
+fn pssh(alloc: Global, version: u8, key_ids: Option<Entries<[u8; 16]>>) -> Outcome {
     let system_data = bytes_of(alloc, b"\xc4")?;
     Ok(ending(
         alloc,
@@ -100,13 +108,13 @@ fn pssh(alloc: Global, version: u8, key_ids: Option<Entries<[u8; 16]>>) -> Made<
 }
 
 /// Writes a key in version 0.
-fn pssh_with_a_key(alloc: Global) -> Made<&'static str> {
+fn pssh_with_a_key(alloc: Global) -> Outcome {
     let key_ids = Vec::from_slice(alloc, &[[0x94; 16]])?.into();
     pssh(alloc, 0, Some(key_ids))
 }
 
 /// Writes a box with this `version` and `default_pattern`.
-fn tenc(alloc: Global, version: u8, default_pattern: Option<TencPattern>) -> Made<&'static str> {
+fn tenc(alloc: Global, version: u8, default_pattern: Option<TencPattern>) -> Outcome {
     let default_constant_iv = bytes_of(alloc, b"")?;
     Ok(ending(
         alloc,
@@ -129,7 +137,7 @@ const PATTERN: TencPattern = TencPattern {
 };
 
 /// Writes a `name` of this length and this number of `entries`.
-fn runs(alloc: Global, name: usize, entries: usize) -> Made<&'static str> {
+fn runs(alloc: Global, name: usize, entries: usize) -> Outcome {
     let packed = Packed {
         is_first: true,
         kind: 3,
@@ -149,7 +157,7 @@ fn runs(alloc: Global, name: usize, entries: usize) -> Made<&'static str> {
 }
 
 /// Writes these strings.
-fn strings(alloc: Global, scheme: &[u8], name: &[u8], value: &[u8]) -> Made<&'static str> {
+fn strings(alloc: Global, scheme: &[u8], name: &[u8], value: &[u8]) -> Outcome {
     let scheme = bytes_of(alloc, scheme)?;
     let name = bytes_of(alloc, name)?;
     let value = bytes_of(alloc, value)?;
@@ -164,7 +172,12 @@ fn strings(alloc: Global, scheme: &[u8], name: &[u8], value: &[u8]) -> Made<&'st
 }
 
 /// Returns `count` copies of a moment.
-fn moments(alloc: Global, kind: u8, time: u64, count: usize) -> Made<Entries<Moment>> {
+fn moments(
+    alloc: Global,
+    kind: u8,
+    time: u64,
+    count: usize,
+) -> Result<Entries<Moment>, AllocError> {
     let mut moments = Entries::new(alloc);
     for _ in 0..count {
         moments.push(Moment { kind, time })?;
@@ -180,7 +193,7 @@ fn nested(
     name: usize,
     time: u64,
     count: usize,
-) -> Made<&'static str> {
+) -> Outcome {
     let name = vec![in alloc; 0x84; name]?.into();
     let moments = moments(alloc, 0x85, time, count)?;
     let mut groups = Entries::new(alloc);
@@ -197,7 +210,7 @@ fn nested(
 }
 
 /// Writes two lines. The second has this `text` and `count` copies of a moment at this `time`.
-fn lines(alloc: Global, text: &[u8], time: u64, count: usize) -> Made<&'static str> {
+fn lines(alloc: Global, text: &[u8], time: u64, count: usize) -> Outcome {
     let mut lines = Entries::new(alloc);
     lines.push(Line {
         moments: Entries::new(alloc),
@@ -225,7 +238,7 @@ fn sidx(
     (version, flags, time, first_offset): (u8, u32, u64, u64),
     count: usize,
     reference: SidxEntry,
-) -> Made<&'static str> {
+) -> Outcome {
     let entries = vec![in alloc; reference; count]?.into();
     Ok(ending(
         alloc,
@@ -270,74 +283,73 @@ const WIDE: [SidxEntry; 3] = [
 ];
 
 /// Returns whether boxes are refused with parts that do not fit their fields, versions or flags.
-fn boxes_of_parts(alloc: Global) -> Made<bool> {
+fn boxes_of_parts(alloc: Global) -> bool {
     let endings = [
-        av1c(alloc)?,
-        colr(alloc)?,
-        sdtp(alloc)?,
-        sbgp(alloc, 0, Some(0x8889_8a8b))?,
-        sbgp(alloc, 1, None)?,
-        schm(alloc)?,
-        pssh_with_a_key(alloc)?,
-        pssh(alloc, 1, None)?,
-        tenc(alloc, 0, Some(PATTERN))?,
-        tenc(alloc, 1, None)?,
-        strings(alloc, b"\x81", b"\0\0\0\0", b"\xff")?,
-        strings(alloc, b"\0\x81", b"", b"")?,
-        strings(alloc, b"", b"", b"\x81\0")?,
-        runs(alloc, 256, 255)?,
-        runs(alloc, 255, 256)?,
+        av1c(alloc),
+        colr(alloc),
+        sdtp(alloc),
+        sbgp(alloc, 0, Some(0x8889_8a8b)),
+        sbgp(alloc, 1, None),
+        schm(alloc),
+        pssh_with_a_key(alloc),
+        pssh(alloc, 1, None),
+        tenc(alloc, 0, Some(PATTERN)),
+        tenc(alloc, 1, None),
+        strings(alloc, b"\x81", b"\0\0\0\0", b"\xff"),
+        strings(alloc, b"\0\x81", b"", b""),
+        strings(alloc, b"", b"", b"\x81\0"),
+        runs(alloc, 256, 255),
+        runs(alloc, 255, 256),
     ];
-    Ok(endings == [UNFIT; 15])
+    endings == [UNFIT; 15]
 }
 
 /// Returns whether boxes are refused with entries of different lengths that do not fit.
-fn boxes_of_entries(alloc: Global) -> Made<bool> {
+fn boxes_of_entries(alloc: Global) -> bool {
     let endings = [
-        nested(alloc, (2, 0), 0, 0, 0)?,
-        nested(alloc, (0, 1 << 24), 0, 0, 0)?,
-        nested(alloc, (0, 0), 256, 0, 0)?,
-        nested(alloc, (0, 0), 255, 1 << 32, 1)?,
-        nested(alloc, (1, 0), 0, 0, 65536)?,
-        lines(alloc, b"\x88\0", 0, 0)?,
-        lines(alloc, b"", 1 << 32, 1)?,
-        lines(alloc, b"", 0, 256)?,
+        nested(alloc, (2, 0), 0, 0, 0),
+        nested(alloc, (0, 1 << 24), 0, 0, 0),
+        nested(alloc, (0, 0), 256, 0, 0),
+        nested(alloc, (0, 0), 255, 1 << 32, 1),
+        nested(alloc, (1, 0), 0, 0, 65536),
+        lines(alloc, b"\x88\0", 0, 0),
+        lines(alloc, b"", 1 << 32, 1),
+        lines(alloc, b"", 0, 256),
     ];
-    Ok(endings == [UNFIT; 8])
+    endings == [UNFIT; 8]
 }
 
 /// Returns whether the largest such boxes that fit are written.
-fn largest_boxes(alloc: Global) -> Made<bool> {
+fn largest_boxes(alloc: Global) -> bool {
     let endings = [
-        nested(alloc, (0, 0xff_ffff), 255, (1 << 32) - 1, 1)?,
-        nested(alloc, (1, 0), 0, 1 << 32, 1)?,
-        lines(alloc, b"", (1 << 32) - 1, 255)?,
+        nested(alloc, (0, 0xff_ffff), 255, (1 << 32) - 1, 1),
+        nested(alloc, (1, 0), 0, 1 << 32, 1),
+        lines(alloc, b"", (1 << 32) - 1, 255),
     ];
-    Ok(endings == ["ok"; 3])
+    endings == [WRITTEN; 3]
 }
 
 /// Returns whether segment indexes are refused that do not fit.
-fn indexes(alloc: Global) -> Made<bool> {
+fn indexes(alloc: Global) -> bool {
     let endings = [
-        sidx(alloc, (0, 0, 0, 0), 1, WIDE[0])?,
-        sidx(alloc, (0, 0, 0, 0), 1, WIDE[1])?,
-        sidx(alloc, (0, 0, 0, 0), 1, WIDE[2])?,
-        sidx(alloc, (0, 0, 0, 0), 65536, SidxEntry::default())?,
-        sidx(alloc, (2, 0, 0, 0), 0, SidxEntry::default())?,
-        sidx(alloc, (0, 1 << 24, 0, 0), 0, SidxEntry::default())?,
-        sidx(alloc, (0, 0, 1 << 32, 0), 0, SidxEntry::default())?,
-        sidx(alloc, (0, 0, 0, 1 << 32), 0, SidxEntry::default())?,
-        sidx(alloc, (0, 0, 1 << 32, 1 << 32), 0, SidxEntry::default())?,
+        sidx(alloc, (0, 0, 0, 0), 1, WIDE[0]),
+        sidx(alloc, (0, 0, 0, 0), 1, WIDE[1]),
+        sidx(alloc, (0, 0, 0, 0), 1, WIDE[2]),
+        sidx(alloc, (0, 0, 0, 0), 65536, SidxEntry::default()),
+        sidx(alloc, (2, 0, 0, 0), 0, SidxEntry::default()),
+        sidx(alloc, (0, 1 << 24, 0, 0), 0, SidxEntry::default()),
+        sidx(alloc, (0, 0, 1 << 32, 0), 0, SidxEntry::default()),
+        sidx(alloc, (0, 0, 0, 1 << 32), 0, SidxEntry::default()),
+        sidx(alloc, (0, 0, 1 << 32, 1 << 32), 0, SidxEntry::default()),
     ];
-    Ok(endings == [UNFIT; 9])
+    endings == [UNFIT; 9]
 }
 
 #[test]
-fn lists_that_do_not_fit(rt: HostRuntime) -> Result<(), Fail> {
+fn lists_that_do_not_fit(rt: HostRuntime) {
     let alloc = rt.alloc();
-    assert!(rt; boxes_of_parts(alloc)?);
-    assert!(rt; boxes_of_entries(alloc)?);
-    assert!(rt; indexes(alloc)?);
-    assert!(rt; largest_boxes(alloc)?);
-    Ok(())
+    assert!(rt; boxes_of_parts(alloc));
+    assert!(rt; boxes_of_entries(alloc));
+    assert!(rt; indexes(alloc));
+    assert!(rt; largest_boxes(alloc));
 }
