@@ -11,7 +11,6 @@ use linked_list_allocator::LocalHeap;
 use mp4_io::{Input, Output};
 use mp4_stream::Error;
 use std::alloc::Global;
-use std::process::Abort;
 use std::test::Fail;
 
 /// The commands, with the output of each for the stored input.
@@ -41,53 +40,100 @@ const LISTS: [(&[u8], &[u8]); 4] = [
     ),
 ];
 
-/// Runs a command over the stored input; the calls with these numbers go wrong.
+/// The end of a run.
+#[derive(Clone, Copy, Debug, PartialEq, Eq)]
+enum End {
+    /// With this number of bytes.
+    Written(u64),
+    /// With a failed read.
+    Read,
+    /// With a failed write.
+    Write,
+    /// With another fault.
+    Other,
+}
+
+/// Returns how a run ended.
+fn end_of(outcome: &Result<u64, RunFault>) -> End {
+    match outcome {
+        Ok(bytes) => End::Written(*bytes),
+        Err(RunFault::Read) => End::Read,
+        Err(RunFault::Write) => End::Write,
+        Err(_) => End::Other,
+    }
+}
+
+/// The part of a run that is compared.
+#[derive(Clone, Copy, Debug, PartialEq, Eq)]
+struct Run {
+    end: End,
+    /// The number of calls of the reader.
+    reads: u64,
+    /// The number of calls of the writer.
+    writes: u64,
+    /// The number of bytes that the writer took, if they are the first of the expected output.
+    taken: Option<usize>,
+    /// The marks of a failed end, of the reader and of the writer.
+    failed: (bool, bool),
+}
+
+/// Returns the number of bytes of `taken`, if they are the first of `expected`.
+fn front_of(taken: &[u8], expected: &[u8]) -> Option<usize> {
+    (expected.get(..taken.len()) == Some(taken)).then_some(taken.len())
+}
+
+/// Runs a command over the stored input. The calls with the numbers `bad_read` and `bad_write` go wrong.
 fn run_with_bad_calls(
-    rt: &(impl Abort + Alloc<A = Global>),
-    command: Command,
-    expected: &[u8],
+    alloc: Global,
+    (command, expected): (Command, &[u8]),
     refusal: Refusal,
     bad_read: u64,
     bad_write: u64,
-) {
+) -> Run {
     let mut input = Input::new(Giver::new(&INPUT, GIVEN, Some(bad_read)));
-    let mut output = Output::new(Taker::new(rt.alloc(), TAKEN, Some(bad_write), refusal));
-    let result = run_command(rt.alloc(), command, &mut input, &mut output);
-    // The last call of the reader is at the end of the input, and the last call of the writer is the flush.
+    let mut output = Output::new(Taker::new(alloc, TAKEN, Some(bad_write), refusal));
+    let end = end_of(&run_command(alloc, command, &mut input, &mut output));
+    Run {
+        end,
+        reads: input.inner.calls,
+        writes: output.inner.calls,
+        taken: front_of(&output.inner.taken, expected),
+        failed: (input.failed, output.failed),
+    }
+}
+
+/// Returns what `run_with_bad_calls` has to return. The last call of the reader is at the end of the input, and the
+/// last call of the writer is the flush.
+fn expected_run(expected: &[u8], bad_read: u64, bad_write: u64) -> Run {
     let reads = INPUT.len().div_ceil(GIVEN) as u64 + 1;
     let pieces = expected.len().div_ceil(TAKEN) as u64;
-    let case = (command, refusal, bad_read, bad_write);
-    let taken = output.inner.taken.as_slice();
+    let good_writes = bad_write.saturating_sub(1);
     if bad_read <= reads {
-        assert!(rt; matches!(result, Err(RunFault::Read)), "{case:?}");
-        assert_eq!(rt; input.inner.calls, bad_read, "{case:?}");
-        assert_eq!(rt; output.inner.calls, 0, "{case:?}");
-        assert!(rt; taken.is_empty(), "{case:?}");
-    } else if bad_write.saturating_sub(1) <= pieces {
-        assert!(rt; matches!(result, Err(RunFault::Write)), "{case:?}");
-        assert_eq!(rt; input.inner.calls, reads, "{case:?}");
-        assert_eq!(rt; output.inner.calls, bad_write, "{case:?}");
-        let end = (bad_write.saturating_sub(1) as usize).saturating_mul(TAKEN);
-        assert!(rt; taken == &expected[..end.min(expected.len())], "{case:?}");
+        Run {
+            end: End::Read,
+            reads: bad_read,
+            writes: 0,
+            taken: Some(0),
+            failed: (true, false),
+        }
+    } else if good_writes <= pieces {
+        let taken = (good_writes as usize).saturating_mul(TAKEN);
+        Run {
+            end: End::Write,
+            reads,
+            writes: bad_write,
+            taken: Some(taken.min(expected.len())),
+            failed: (false, true),
+        }
     } else {
-        assert!(rt;
-            matches!(result, Ok(n) if n == expected.len() as u64),
-            "{case:?}"
-        );
-        assert_eq!(rt; input.inner.calls, reads, "{case:?}");
-        assert_eq!(rt; output.inner.calls.saturating_sub(1), pieces, "{case:?}");
-        assert!(rt; taken == expected, "{case:?}");
+        Run {
+            end: End::Written(expected.len() as u64),
+            reads,
+            writes: pieces.saturating_add(1),
+            taken: Some(expected.len()),
+            failed: (false, false),
+        }
     }
-    assert_eq!(rt;
-        input.failed,
-        matches!(result, Err(RunFault::Read)),
-        "{case:?}"
-    );
-    assert_eq!(rt;
-        output.failed,
-        matches!(result, Err(RunFault::Write)),
-        "{case:?}"
-    );
 }
 
 #[test]
@@ -96,7 +142,16 @@ fn each_call_fails_in_turn(rt: HostRuntime) {
         for refusal in [Refusal::Fails, Refusal::TakesNone] {
             for bad_read in 1..CALLS {
                 for bad_write in 1..CALLS + 1 {
-                    run_with_bad_calls(&rt, command, expected, refusal, bad_read, bad_write);
+                    let case = (command, refusal, bad_read, bad_write);
+                    let run = run_with_bad_calls(
+                        rt.alloc(),
+                        (command, expected),
+                        refusal,
+                        bad_read,
+                        bad_write,
+                    );
+                    let wanted = expected_run(expected, bad_read, bad_write);
+                    assert_eq!(rt; run, wanted, "{case:?}");
                 }
             }
         }
@@ -126,28 +181,63 @@ fn one_byte_a_call(rt: HostRuntime) {
     }
 }
 
-#[test]
-fn one_call_of_an_end(rt: HostRuntime) {
+/// Returns the result of a call of the reader, the buffer after it, and the mark of a failed end.
+fn pulled(input: &mut Input<Giver<'_>>, buf: &mut [u8; 8]) -> (Option<usize>, [u8; 8], bool) {
+    let result = input.pull(buf);
+    (result, *buf, input.failed)
+}
+
+/// Returns what three calls of a reader give whose second call fails.
+fn three_pulls() -> [(Option<usize>, [u8; 8], bool); 3] {
     let mut input = Input::new(Giver::new(&INPUT, 3, Some(2)));
     let mut buf = [0u8; 8];
-    assert_eq!(rt; input.pull(&mut buf), Some(3));
-    assert!(rt; buf == [0x00, 0x00, 0x00, 0, 0, 0, 0, 0]);
-    assert!(rt; !input.failed);
-    assert_eq!(rt; input.pull(&mut buf), None);
-    assert!(rt; input.failed);
-    assert_eq!(rt; input.pull(&mut buf), Some(3));
-    assert!(rt; buf == [0x18, 0x66, 0x74, 0, 0, 0, 0, 0]);
-    assert!(rt; input.failed);
+    [
+        pulled(&mut input, &mut buf),
+        pulled(&mut input, &mut buf),
+        pulled(&mut input, &mut buf),
+    ]
+}
 
-    let mut output = Output::new(Taker::new(rt.alloc(), 3, Some(3), Refusal::TakesNone));
-    assert_eq!(rt; output.push(b"isom"), Some(3));
-    assert_eq!(rt; output.push(b""), Some(0));
-    assert!(rt; !output.failed);
-    assert_eq!(rt; output.push(b"mp41"), None);
-    assert!(rt; output.failed);
-    assert_eq!(rt; output.push(b"mp"), Some(2));
-    assert!(rt; output.failed);
-    assert!(rt; output.inner.taken.as_slice() == b"isomp".as_slice());
+/// Returns the result of a call of the writer, and the mark of a failed end.
+fn pushed(output: &mut Output<Taker>, bytes: &[u8]) -> (Option<usize>, bool) {
+    let result = output.push(bytes);
+    (result, output.failed)
+}
+
+/// Returns what four calls of a writer give whose third call takes no byte, and whether the bytes of the others were
+/// taken.
+fn four_pushes(alloc: Global) -> ([(Option<usize>, bool); 4], bool) {
+    let mut output = Output::new(Taker::new(alloc, 3, Some(3), Refusal::TakesNone));
+    let results = [
+        pushed(&mut output, b"isom"),
+        pushed(&mut output, b""),
+        pushed(&mut output, b"mp41"),
+        pushed(&mut output, b"mp"),
+    ];
+    (
+        results,
+        output.inner.taken.as_slice() == b"isomp".as_slice(),
+    )
+}
+
+#[test]
+fn one_call_of_an_end(rt: HostRuntime) {
+    let pulls = three_pulls();
+    assert!(rt;
+        pulls
+            == [
+                (Some(3), [0x00, 0x00, 0x00, 0, 0, 0, 0, 0], false),
+                (None, [0x00, 0x00, 0x00, 0, 0, 0, 0, 0], true),
+                (Some(3), [0x18, 0x66, 0x74, 0, 0, 0, 0, 0], true),
+            ]
+    );
+    let pushes = [
+        (Some(3), false),
+        (Some(0), false),
+        (None, true),
+        (Some(2), true),
+    ];
+    assert!(rt; four_pushes(rt.alloc()) == (pushes, true));
 }
 
 #[test]
