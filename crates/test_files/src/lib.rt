@@ -2,7 +2,9 @@
 //! `mp4_faststart` with hand-written files, tables and fragments that follow ISO/IEC 14496-12.
 #![tactic(auto)]
 
-pub mod callers;
-pub mod edit_callers;
+#[cfg(test)]
+mod callers;
+#[cfg(test)]
+mod edit_callers;
 #[cfg(test)]
 mod tests;

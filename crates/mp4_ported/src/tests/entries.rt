@@ -1,12 +1,12 @@
 //! The tests of the Rust crate for sample entries of video and text.
 
-use crate::boxes::entries::{
+use std::test::Fail;
+use test_shared::boxes::entries::{
     AVC1_OF_TEST, HEV1_OF_TEST, TX3G_OF_TEST, VP09_OF_TEST, VPCC_OF_TEST, avc1_of_two,
     hev1_of_config, tx3g_of_test, vp09_of_config, vpcc_of_test,
 };
-use crate::helpers::expect_round_trip;
-use crate::made;
-use std::test::Fail;
+use test_shared::helpers::expect_round_trip;
+use test_shared::made;
 
 #[test]
 fn avc1_and_hev1(rt: HostRuntime) -> Result<(), Fail> {

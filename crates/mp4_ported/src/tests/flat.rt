@@ -1,14 +1,14 @@
 //! The tests of the Rust crate for boxes of fixed fields.
 
-use crate::boxes::flat::{
+use mp4_stream::{language_code, language_string};
+use std::test::Fail;
+use test_shared::boxes::flat::{
     MDHD, MDHD_ENGLISH, MEHD_SHORT, MFHD, MVHD, MVHD_LONG, SMHD, TFDT_LONG, TFDT_OF_ZERO,
     TKHD_LONG, TKHD_SHORT, TREX, VMHD_BLACK, mdhd, mdhd_english, mehd_short, mfhd, mvhd, mvhd_long,
     smhd, tfdt_of_zero, tkhd_long, tkhd_short, trex, vmhd_black,
 };
-use crate::helpers::expect_round_trip;
-use crate::made;
-use mp4_stream::{language_code, language_string};
-use std::test::Fail;
+use test_shared::helpers::expect_round_trip;
+use test_shared::made;
 
 #[test]
 fn mvhd32_and_mvhd64(rt: HostRuntime) -> Result<(), Fail> {

@@ -1,8 +1,8 @@
 //! The tests of the Rust crate for codes and headers.
 
-use crate::helpers::{Kind, kind_of};
 use mp4_stream::{BoxHeader, BoxType, ByteCursor, FourCC};
 use std::test::Fail;
+use test_shared::helpers::{Kind, kind_of};
 
 #[test]
 fn four_cc(rt: HostRuntime) {

@@ -1,15 +1,15 @@
 //! The tests of the Rust crate for tables.
 
-use crate::boxes::tables::{
+use mp4_stream::TrunBox;
+use std::test::Fail;
+use test_shared::boxes::tables::{
     CO64_OF_SEVEN, CTTS, ELST, ELST_LONG, STCO, STSC, STSS_OF_NINE, STSZ_OF_NINE, STSZ_OF_ONE_SIZE,
     STTS, TFHD, TFHD_BARE, TRUN_NONE, TRUN_OF_FOUR_LISTS, co64_of_seven, ctts, elst, elst_long,
     stco, stsc, stss_of_nine, stsz_of_nine, stsz_of_one_size, stts, tfhd, tfhd_bare,
     trun_of_four_lists,
 };
-use crate::helpers::expect_round_trip;
-use crate::made;
-use mp4_stream::TrunBox;
-use std::test::Fail;
+use test_shared::helpers::expect_round_trip;
+use test_shared::made;
 
 #[test]
 fn stco_co64_and_stsc(rt: HostRuntime) -> Result<(), Fail> {

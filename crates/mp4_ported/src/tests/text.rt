@@ -1,11 +1,11 @@
 //! The tests of the Rust crate for texts and data.
 
-use crate::boxes::text::{
-    DATA, EMSG, EMSG_LONG, FTYP, HDLR, data_box, emsg, emsg_long, ftyp, hdlr,
-};
-use crate::made;
 use mp4_stream::DataBox;
 use std::test::Fail;
+use test_shared::boxes::text::{
+    DATA, EMSG, EMSG_LONG, FTYP, HDLR, data_box, emsg, emsg_long, ftyp, hdlr,
+};
+use test_shared::made;
 
 #[test]
 fn ftyp_and_hdlr(rt: HostRuntime) -> Result<(), Fail> {

@@ -1,7 +1,7 @@
 //! Tests of the cursor: taking bytes and rows, and skipping.
 
-use mp4_ported::helpers::{Kind, kind_of};
 use mp4_stream::{ByteCursor, box_start, skip_box, skip_bytes, skip_bytes_to};
+use test_shared::helpers::{Kind, kind_of};
 
 /// Returns whether the last two bytes are taken, and the cursor is at the end.
 fn takes_the_last_bytes() -> bool {

@@ -1,27 +1,27 @@
 //! Tests of boxes that are cut at every length. If a byte that reading needs is missing, the error is end of input.
 //! Bytes after those are not needed.
 
-use mp4_ported::boxes::entries::{
+use mp4_stream::{HvcCBox, MdhdBox, MehdBox, MvhdBox, SmhdBox, TkhdBox, TrunBox, VmhdBox};
+use std::test::Fail;
+use test_shared::boxes::entries::{
     avc1, avc1_of_two, avcc, avcc_of_two, hev1, hev1_of_config, hvcc, tx3g, tx3g_of_test, vp09,
     vp09_of_config, vpcc, vpcc_of_test,
 };
-use mp4_ported::boxes::flat::{
+use test_shared::boxes::flat::{
     mdhd, mdhd_long, mehd, mehd_short, mfhd, mvhd, mvhd_long, smhd, tfdt, tfdt_of_zero, tkhd,
     tkhd_full, tkhd_long, tkhd_short, trex, vmhd, vmhd_black,
 };
-use mp4_ported::boxes::sound::{esds, esds_of_test, mp4a, mp4a_of_test, stsd, stsd_of};
-use mp4_ported::boxes::tables::{
+use test_shared::boxes::sound::{esds, esds_of_test, mp4a, mp4a_of_test, stsd, stsd_of};
+use test_shared::boxes::tables::{
     co64, co64_of_seven, ctts, elst, elst_long, stco, stsc, stss, stss_of_nine, stsz, stsz_of_nine,
     stsz_of_one_size, stts, tfhd, tfhd_all, tfhd_bare, trun, trun_of_four_lists,
     trun_of_three_lists,
 };
-use mp4_ported::boxes::text::{
+use test_shared::boxes::text::{
     data_box, dinf, dinf_url, dref, dref_url, emsg, emsg_long, ftyp, hdlr, url,
 };
-use mp4_ported::helpers::expect_end_at_cuts_below;
-use mp4_ported::made;
-use mp4_stream::{HvcCBox, MdhdBox, MehdBox, MvhdBox, SmhdBox, TkhdBox, TrunBox, VmhdBox};
-use std::test::Fail;
+use test_shared::helpers::expect_end_at_cuts_below;
+use test_shared::made;
 
 #[test]
 fn cut_headers_of_movies_tracks_and_media(rt: HostRuntime) -> Result<(), Fail> {

@@ -1,13 +1,13 @@
 //! Tests of sample entries of video: `vpcC`, `vp09`, `avcC` and `avc1`.
 
-use mp4_ported::boxes::entries::{
-    AVC1_OF_TEST, avc1_of_two, empty_sets, list_of_sets, vp09_of_config,
-};
-use mp4_ported::helpers::{expect_round_trip, expect_value};
-use mp4_ported::made;
 use mp4_stream::{Avc1Box, AvcCBox, AvcConfig, Entries, Error, NalUnit, VpccBox, WriteBox};
 use std::alloc::Global;
 use std::test::Fail;
+use test_shared::boxes::entries::{
+    AVC1_OF_TEST, avc1_of_two, empty_sets, list_of_sets, vp09_of_config,
+};
+use test_shared::helpers::{expect_round_trip, expect_value};
+use test_shared::made;
 
 /// The child of a `vp09` is read whatever its name is.
 #[test]

@@ -1,16 +1,16 @@
 //! Tests of `esds`: the descriptors of an elementary stream, and audio configurations.
 
-use mp4_ported::boxes::sound::{esds_of, mp4a_of, specific};
-use mp4_ported::helpers::{
-    Kind, Mismatch, expect_kind, expect_round_trip, expect_unwritable, expect_unwritable_of_size,
-    expect_value, kind_of,
-};
 use mp4_stream::{
     ByteCursor, DecoderConfigDescriptor, DecoderSpecificDescriptor, ESDescriptor, EsdsBox,
     SLConfigDescriptor, WriteBox,
 };
 use std::alloc::Global;
 use std::test::Fail;
+use test_shared::boxes::sound::{esds_of, mp4a_of, specific};
+use test_shared::helpers::{
+    Kind, Mismatch, expect_kind, expect_round_trip, expect_unwritable, expect_unwritable_of_size,
+    expect_value, kind_of,
+};
 
 /// The bytes that the codec writes for stream 1, of low complexity at 48000 hertz in stereo.
 const STEREO: [u8; 39] = *b"\0\0\0\x27esds\0\0\0\0\x03\x19\0\x01\0\x04\x11\x40\x15\0\0\0\

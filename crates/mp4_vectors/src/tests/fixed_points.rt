@@ -1,10 +1,10 @@
 //! Tests of fixed-point numbers: their raw numbers, their whole parts and how they print.
 
-use mp4_ported::helpers::debug_text;
 use mp4_stream::{FixedPointI8, FixedPointU8, FixedPointU16};
 use std::alloc::{AllocError, Global};
 use std::fmt::Debug;
 use std::test::Fail;
+use test_shared::helpers::debug_text;
 
 /// Returns the first unsigned number of 8 bits that has a wrong raw number, if there is one.
 fn other_raw_of_8() -> Option<u8> {

@@ -1,16 +1,16 @@
 //! Tests of boxes of fixed fields (`mfhd`, `smhd`, `mehd`, `mvhd` and `mdhd`) and of the codes of languages.
 
-use mp4_ported::boxes::flat::{mdhd, mehd, mfhd, smhd};
-use mp4_ported::helpers::{
-    Kind, expect_kind, expect_round_trip, expect_unwritable_of_size, expect_value, kind_of,
-};
-use mp4_ported::made;
 use mp4_stream::{
     ByteCursor, Error, MdhdBox, MehdBox, MfhdBox, MvhdBox, ReadBox, Text, language_code,
     language_string,
 };
 use std::alloc::Global;
 use std::test::Fail;
+use test_shared::boxes::flat::{mdhd, mehd, mfhd, smhd};
+use test_shared::helpers::{
+    Kind, expect_kind, expect_round_trip, expect_unwritable_of_size, expect_value, kind_of,
+};
+use test_shared::made;
 
 /// Reads an `mfhd` at offset 1 of a buffer, with this size. Returns the kind of the outcome and the position of the
 /// cursor after the call.

@@ -1,10 +1,10 @@
 //! A test of `ftyp`: two brands, and sizes that do not hold whole brands.
 
-use mp4_ported::helpers::{Kind, expect_kind};
-use mp4_ported::made;
 use mp4_stream::{Error, FourCC, FtypBox};
 use std::alloc::Global;
 use std::test::Fail;
+use test_shared::helpers::{Kind, expect_kind};
+use test_shared::made;
 
 /// Returns the file type `isom`, of minor version 512, with two brands.
 fn isom(alloc: Global) -> Result<FtypBox, Error> {

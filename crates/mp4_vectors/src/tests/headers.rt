@@ -1,12 +1,12 @@
 //! Tests of the headers of boxes, and of version and flags.
 
-use mp4_ported::helpers::{Kind, kind_of};
 use mp4_stream::{
     BoxHeader, BoxType, ByteCursor, Error, HEADER_EXT_SIZE, HEADER_SIZE, read_box_header_ext,
     write_box_header_ext, write_zeros,
 };
 use std::alloc::Global;
 use std::test::Fail;
+use test_shared::helpers::{Kind, kind_of};
 
 /// Reads the header in `bytes`. Returns the kind of the outcome, the name and size if there is a header, and the
 /// position of the cursor after the call.

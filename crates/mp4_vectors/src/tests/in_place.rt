@@ -1,8 +1,8 @@
 //! Tests of boxes that are written into a slice of their size, whatever bytes it had.
 
-use mp4_ported::boxes::flat::mfhd;
 use mp4_stream::{Tx3gBox, WriteBox};
 use std::test::Fail;
+use test_shared::boxes::flat::mfhd;
 
 /// Writes `value` into `place` if it can be written and has the size of `place`. Returns whether it was written.
 fn put<B: WriteBox>(value: &B, place: &mut [u8]) -> bool {

@@ -1,13 +1,13 @@
 //! Tests of boxes of types that the codec does not read and keeps as bytes.
 
-use mp4_ported::boxes::THREE;
-use mp4_ported::helpers::{Kind, kind_of};
-use mp4_ported::made;
 use mp4_stream::{
     BoxType, ByteCursor, Error, KeptBox, OtherBox, StreamBox, WriteBox, read_boxes_as, write_boxes,
 };
 use std::alloc::Global;
 use std::test::Fail;
+use test_shared::boxes::THREE;
+use test_shared::helpers::{Kind, kind_of};
+use test_shared::made;
 
 /// Reads all boxes in `bytes`, also those of other types. Returns their number and the bytes to which they are written.
 fn rewrite(alloc: Global, bytes: &[u8]) -> Result<(usize, Vec<u8>), Error> {

@@ -1,6 +1,5 @@
 //! Tests of the conversions of plain media types from and to numbers, codes and texts, and of how their values print.
 
-use mp4_ported::helpers::{debug_text, invalid_text};
 use mp4_stream::{
     AudioObjectType, AvcProfile, ChannelConfig, DataType, FourCC, MediaType, SampleFreqIndex,
     TrackType,
@@ -8,6 +7,7 @@ use mp4_stream::{
 use std::alloc::{AllocError, Global};
 use std::fmt::{Debug, Display};
 use std::test::Fail;
+use test_shared::helpers::{debug_text, invalid_text};
 
 /// Returns whether `handler` and `code` are converted to `track`, and `track` is converted to `code`.
 fn is_handled(track: TrackType, handler: &str, code: u32) -> bool {

@@ -1,13 +1,13 @@
 //! Tests of `mp4a`, the sample entry of audio, with and without descriptors.
 
-use mp4_ported::boxes::sound::{MP4A_OF_TEST, esds_of, mp4a_of, mp4a_of_test, specific};
-use mp4_ported::helpers::{
-    Kind, expect_list_kind, expect_round_trip, expect_value, expect_value_to,
-};
 use mp4_stream::{
     AacConfig, AudioObjectType, BoxType, ChannelConfig, EsdsBox, Mp4aBox, SampleFreqIndex,
 };
 use std::test::Fail;
+use test_shared::boxes::sound::{MP4A_OF_TEST, esds_of, mp4a_of, mp4a_of_test, specific};
+use test_shared::helpers::{
+    Kind, expect_list_kind, expect_round_trip, expect_value, expect_value_to,
+};
 
 /// The last entry has a size of 20 and needs more bytes. In a list the next box begins at 20, and ends at 37.
 #[test]

@@ -1,10 +1,10 @@
 //! Tests of how errors, names, codes and matrices print.
 
-use mp4_ported::helpers::debug_text;
 use mp4_stream::{BoxType, Error, FourCC, Matrix};
 use std::alloc::{AllocError, Global};
 use std::fmt::Display;
 use std::test::Fail;
+use test_shared::helpers::debug_text;
 
 /// Returns whether `value` prints as `text`.
 fn is_printed(alloc: Global, value: impl Display + Drop, text: &str) -> Result<bool, AllocError> {

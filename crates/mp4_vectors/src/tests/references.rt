@@ -1,11 +1,11 @@
 //! Tests of references: `url `, `dref` and `dinf`.
 
-use mp4_ported::boxes::text::{dref_of, url};
-use mp4_ported::helpers::{Kind, expect_kind, expect_list};
-use mp4_ported::made;
 use mp4_stream::{BoxType, DinfBox, DrefBox, Error, Text, UrlBox};
 use std::alloc::Global;
 use std::test::Fail;
+use test_shared::boxes::text::{dref_of, url};
+use test_shared::helpers::{Kind, expect_kind, expect_list};
+use test_shared::made;
 
 /// Returns the reference to the same file: flags of 1 and no location.
 fn same_file(alloc: Global) -> UrlBox {

@@ -1,9 +1,9 @@
 //! Tests of `stco`: a count of more entries than the box can hold, and offsets that are converted from 64 bits.
 
-use mp4_ported::helpers::{Kind, expect_kind, kind_of};
 use mp4_stream::{Co64Box, Error, StcoBox};
 use std::alloc::Global;
 use std::test::Fail;
+use test_shared::helpers::{Kind, expect_kind, kind_of};
 
 #[test]
 fn stco_of_more_entries_than_there_is_room_for(rt: HostRuntime) -> Result<(), Fail> {

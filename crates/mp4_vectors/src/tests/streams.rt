@@ -1,10 +1,10 @@
 //! Tests of lists of boxes.
 
-use mp4_ported::boxes::flat::{mehd_short, mfhd};
-use mp4_ported::helpers::{Kind, expect_list, expect_list_kind, kind_of};
 use mp4_stream::{AnyBox, Error, StreamBox, write_boxes};
 use std::alloc::Global;
 use std::test::Fail;
+use test_shared::boxes::flat::{mehd_short, mfhd};
+use test_shared::helpers::{Kind, expect_list, expect_list_kind, kind_of};
 
 const MFHD: [u8; 16] = *b"\0\0\0\x10mfhd\0\0\0\0\0\0\0\x01";
 

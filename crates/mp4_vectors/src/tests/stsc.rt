@@ -1,10 +1,10 @@
 //! Tests of `stsc` and its first samples, which reading computes and writing ignores.
 
-use mp4_ported::boxes::tables::{chunk_run, stsc_of};
-use mp4_ported::helpers::{Kind, expect_kind};
-use mp4_ported::made;
 use mp4_stream::StscBox;
 use std::test::Fail;
+use test_shared::boxes::tables::{chunk_run, stsc_of};
+use test_shared::helpers::{Kind, expect_kind};
+use test_shared::made;
 
 /// The bytes of two runs of chunks, which begin at the chunks 1 and 19026.
 const TWO_RUNS: [u8; 40] = *b"\0\0\0\x28stsc\0\0\0\0\0\0\0\x02\0\0\0\x01\0\0\0\x01\0\0\0\x01\

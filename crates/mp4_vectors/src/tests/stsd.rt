@@ -1,11 +1,11 @@
 //! A test of `stsd` without an entry, and with more entries than are written.
 
-use mp4_ported::boxes::entries::avc1_of_two;
-use mp4_ported::boxes::sound::{mp4a_of, mp4a_of_test};
-use mp4_ported::made;
 use mp4_stream::{BoxType, Error, Mp4aBox, StsdBox};
 use std::alloc::Global;
 use std::test::Fail;
+use test_shared::boxes::entries::avc1_of_two;
+use test_shared::boxes::sound::{mp4a_of, mp4a_of_test};
+use test_shared::made;
 
 /// The bytes of an `stsd` with one entry, the `avc1` of two parameter sets.
 const ONE_ENTRY: [u8; 151] = [

@@ -1,13 +1,13 @@
 //! Tests of tables with a count or with flags: `ctts`, `stsz`, `elst`, `tfhd` and `trun`.
 
-use mp4_ported::boxes::tables::{
-    ctts, elst, elst_of, list, stsz_of_one_size, tfhd, trun, trun_of_durations,
-};
-use mp4_ported::helpers::{Kind, expect_kind, expect_round_trip, expect_unwritable};
-use mp4_ported::made;
 use mp4_stream::{ElstBox, Error, StszBox, TfhdBox, TrunBox};
 use std::alloc::Global;
 use std::test::Fail;
+use test_shared::boxes::tables::{
+    ctts, elst, elst_of, list, stsz_of_one_size, tfhd, trun, trun_of_durations,
+};
+use test_shared::helpers::{Kind, expect_kind, expect_round_trip, expect_unwritable};
+use test_shared::made;
 
 /// Returns an `stsz` that counts nine samples and has eight sizes.
 fn stsz_of_eight(alloc: Global, sample_size: u32) -> Result<StszBox, Error> {

@@ -1,11 +1,11 @@
 //! Tests of strings and data: `hdlr`, `data` and `emsg`.
 
-use mp4_ported::boxes::text::emsg;
-use mp4_ported::helpers::{Kind, expect_kind, expect_list_kind};
-use mp4_ported::made;
 use mp4_stream::{DataBox, EmsgBox, Error, FourCC, HdlrBox, Text};
 use std::alloc::Global;
 use std::test::Fail;
+use test_shared::boxes::text::emsg;
+use test_shared::helpers::{Kind, expect_kind, expect_list_kind};
+use test_shared::made;
 
 /// Returns the handler of a video track with this name.
 fn hdlr_of(alloc: Global, name: &str) -> Result<HdlrBox, Error> {

@@ -1,10 +1,10 @@
 //! Tests of `avc1` and its `avcC`, made from configurations.
 
-use mp4_ported::boxes::entries::{PICTURE, SEQUENCE, avc1_of, avcc_of_two, list_of_sets};
-use mp4_ported::made;
 use mp4_stream::{Avc1Box, AvcCBox, AvcConfig, Error, FixedPointU16};
 use std::alloc::Global;
 use std::test::Fail;
+use test_shared::boxes::entries::{PICTURE, SEQUENCE, avc1_of, avcc_of_two, list_of_sets};
+use test_shared::made;
 
 const COUNTED_SEQUENCE: [u8; 5] = [0x67, 0x81, 0x82, 0x83, 0x84];
 

@@ -1,16 +1,16 @@
 //! Tests of clones of boxes.
 
-use mp4_ported::boxes::entries::{avc1, avcc, hev1, tx3g, vp09, vpcc};
-use mp4_ported::boxes::flat::mdhd_long;
-use mp4_ported::boxes::sound::{esds, mp4a, mp4a_of, mp4a_of_test};
-use mp4_ported::boxes::tables::{
-    STCO_OF_ONE, co64_of_seven, ctts, elst_long, stco, stsc, stss_of_nine, stsz_of_nine, stts, trun,
-};
-use mp4_ported::boxes::text::{FTYP_OF_TWO, data_box, dinf, dref_of, emsg, ftyp, hdlr, url};
-use mp4_ported::helpers::read;
-use mp4_ported::made;
 use mp4_stream::{Error, FtypBox, ReadBox, StcoBox, TryClone};
 use std::alloc::Global;
+use test_shared::boxes::entries::{avc1, avcc, hev1, tx3g, vp09, vpcc};
+use test_shared::boxes::flat::mdhd_long;
+use test_shared::boxes::sound::{esds, mp4a, mp4a_of, mp4a_of_test};
+use test_shared::boxes::tables::{
+    STCO_OF_ONE, co64_of_seven, ctts, elst_long, stco, stsc, stss_of_nine, stsz_of_nine, stts, trun,
+};
+use test_shared::boxes::text::{FTYP_OF_TWO, data_box, dinf, dref_of, emsg, ftyp, hdlr, url};
+use test_shared::helpers::read;
+use test_shared::made;
 
 /// Returns whether the box in `made` has a clone that is equal to it.
 fn is_cloned<B: TryClone + PartialEq + Drop>(made: Result<B, Error>) -> bool {

@@ -1,13 +1,13 @@
 //! Tests of the configurations of tracks: their defaults, their clones and how they print.
 
-use mp4_ported::helpers::debug_text;
-use mp4_ported::made;
 use mp4_stream::{
     AacConfig, AudioObjectType, AvcConfig, ChannelConfig, Entries, Error, HevcConfig, MediaConfig,
     SampleFreqIndex, TryClone, TtxtConfig, Vp9Config,
 };
 use std::alloc::Global;
 use std::fmt::Debug;
+use test_shared::helpers::debug_text;
+use test_shared::made;
 
 /// Returns whether `avc` has no width, no height and no parameter sets.
 fn is_empty(avc: AvcConfig) -> bool {

@@ -1,9 +1,6 @@
 //! Tests of defaults: the bytes of some, and the fields of the others. A clause states the value of every default.
 //! These tests compare the values with those of the Rust crate.
 
-use mp4_ported::boxes::flat::MFHD;
-use mp4_ported::helpers::expect_round_trip;
-use mp4_ported::made;
 use mp4_stream::{
     DataType, DrefBox, EmsgBox, Entries, EsdsBox, FixedPointU16, FourCC, FtypBox, HdlrBox, Matrix,
     MdhdBox, MehdBox, MfhdBox, Mp4aBox, MvhdBox, RgbColor, RgbaColor, SmhdBox, StcoBox, StscBox,
@@ -11,6 +8,9 @@ use mp4_stream::{
 };
 use std::alloc::Global;
 use std::test::Fail;
+use test_shared::boxes::flat::MFHD;
+use test_shared::helpers::expect_round_trip;
+use test_shared::made;
 
 const MVHD: [u8; 108] =
     *b"\0\0\0lmvhd\0\0\0\0\0\0\0\0\0\0\0\0\0\0\x03\xe8\0\0\0\0\0\x01\0\0\x01\0\0\0\0\0\0\0\0\0\0\0\0\x01\0\

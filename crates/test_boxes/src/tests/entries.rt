@@ -1,7 +1,7 @@
 //! Tests of lists of entries that are changed in place.
 
-use mp4_ported::boxes::tables::list;
 use mp4_stream::{Entries, Error};
+use test_shared::boxes::tables::list;
 
 /// Adds 1 to each of `entries`, modulo 2^32.
 fn count_on(entries: &mut Entries<u32>) {

@@ -1,10 +1,10 @@
 //! Tests that `==` tells strings and lists of equal length apart, so that a comparison with an expected value means
 //! something.
 
-use mp4_ported::boxes::tables::list;
-use mp4_ported::made;
 use mp4_stream::{Error, Text, TryClone};
 use std::alloc::Global;
+use test_shared::boxes::tables::list;
+use test_shared::made;
 
 /// Returns whether the value in `made` has a clone that is equal to it.
 fn is_cloned<T: TryClone + PartialEq + Drop>(made: Result<T, Error>) -> bool {

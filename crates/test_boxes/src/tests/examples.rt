@@ -6,12 +6,12 @@ use example_callers::numbers::aac_config_again;
 use example_callers::references::append_reference;
 use example_callers::sound::{audio_configuration, read_small_esds};
 use example_callers::times::append_decode_time;
-use mp4_ported::boxes::sound::{ESDS, STSD, esds, specific};
-use mp4_ported::boxes::text::DINF_URL;
-use mp4_ported::helpers::invalid_text;
 use mp4_stream::{AacConfig, ByteCursor, Co64Box, DecoderSpecificDescriptor, Error, EsdsBox};
 use std::alloc::Global;
 use std::test::Fail;
+use test_shared::boxes::sound::{ESDS, STSD, esds, specific};
+use test_shared::boxes::text::DINF_URL;
+use test_shared::helpers::invalid_text;
 
 /// Returns a `co64` with these offsets.
 fn long_offsets(alloc: Global, offsets: &[u64]) -> Result<Co64Box, Error> {

@@ -34,7 +34,7 @@ pub(crate) fn ending_of<B: WriteBox>(alloc: Global, value: &B) -> Ending {
 }
 
 /// Writes a box with these `fields` and returns the ending, like `ending_of`.
-pub(crate) fn ending<T: DeclaredBox>(alloc: Global, fields: T) -> Ending {
+pub(crate) fn declared_ending<T: DeclaredBox>(alloc: Global, fields: T) -> Ending {
     ending_of(alloc, &Declared::new(fields))
 }
 

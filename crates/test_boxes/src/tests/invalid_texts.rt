@@ -1,12 +1,12 @@
 //! Tests of the texts of invalid data, except those of reading boxes.
 
-use mp4_ported::helpers::invalid_text;
 use mp4_stream::{
     AnyBox, BoxHeader, BoxType, ByteCursor, Co64Box, Error, FourCC, MfhdBox, StcoBox, WriteBox,
     skip_box, skip_bytes, write_box_header_ext, write_boxes,
 };
 use std::alloc::Global;
 use std::str::FromStr;
+use test_shared::helpers::invalid_text;
 
 /// Returns whether `outcome` is invalid data with this text.
 fn is_invalid<T: Drop>(outcome: Result<T, Error>, text: &str) -> bool {

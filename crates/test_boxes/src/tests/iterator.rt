@@ -3,11 +3,11 @@
 use super::streams::kind_and_count;
 use example_callers::mark::MarkBox;
 use mp4_iterator::{Boxes, boxes_as, collect_boxes};
-use mp4_ported::boxes::THREE;
-use mp4_ported::helpers::{Kind, kind_of};
 use mp4_stream::{AnyBox, ByteCursor, Error, StreamBox};
 use std::alloc::Global;
 use std::test::Fail;
+use test_shared::boxes::THREE;
+use test_shared::helpers::{Kind, kind_of};
 
 /// Two boxes of a type from outside the codec, with a `free` box between them.
 const MARKS: [u8; 32] = *b"\0\0\0\x0cmark\0\0\0\x07\0\0\0\x08free\0\0\0\x0cmark\0\0\0\x08";

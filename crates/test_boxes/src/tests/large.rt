@@ -2,11 +2,11 @@
 //! Memory is ample.
 
 use super::streams::rewrite;
-use mp4_ported::helpers::{Mismatch, read};
-use mp4_ported::made;
 use mp4_stream::{AvcCBox, Error, FtypBox, HdlrBox, KeptBox, OtherBox, ReadBox, StcoBox, TryClone};
 use std::alloc::Global;
 use std::test::Fail;
+use test_shared::helpers::{Mismatch, read};
+use test_shared::made;
 
 /// Returns `front`, followed by `count` copies of `piece`.
 fn repeated(alloc: Global, front: &[u8], piece: &[u8], count: usize) -> Result<Vec<u8>, Error> {

@@ -2,10 +2,10 @@
 
 use super::streams::kind_and_count;
 use linked_list_allocator::LocalHeap;
-use mp4_ported::helpers::Kind;
 use mp4_stream::{ByteCursor, list_boxes};
 use std::alloc::Allocator;
 use std::test::Fail;
+use test_shared::helpers::Kind;
 
 /// Lists the boxes in `bytes` starting at `position`. Returns the kind of the outcome, the number of boxes, and the
 /// position of the cursor after the call.

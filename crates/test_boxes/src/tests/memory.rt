@@ -3,13 +3,13 @@
 use super::streams::{any_ftyp, append_two};
 use example_callers::mark::MarkBox;
 use linked_list_allocator::LocalHeap;
-use mp4_ported::helpers::{Kind, kind_of};
 use mp4_stream::{
     AnyBox, BoxHeader, BoxType, Error, MfhdBox, WriteBox, write_box_header_ext, write_boxes,
     write_zeros,
 };
 use std::alloc::{AllocError, Global};
 use std::test::Fail;
+use test_shared::helpers::{Kind, kind_of};
 
 /// A call that appends bytes to a vector.
 #[derive(Clone, Copy, Debug, PartialEq, Eq)]
@@ -51,7 +51,7 @@ fn append<'a>(
 }
 
 /// The effect of a call on a vector.
-enum Step {
+enum Effect {
     /// It appended bytes.
     Appended,
     /// It was out of memory and left the length.
@@ -61,12 +61,12 @@ enum Step {
 }
 
 /// Makes this call, and returns what it did.
-fn step<'a>(call: Call, out: &mut Vec<u8, &'a LocalHeap>) -> Step {
+fn effect_of<'a>(call: Call, out: &mut Vec<u8, &'a LocalHeap>) -> Effect {
     let before = out.len();
     match append(call, &MarkBox { mark: 1 }, out) {
-        Ok(_) if out.len() > before => Step::Appended,
-        Err(Error::OutOfMemory) if out.len() == before => Step::Refused,
-        _ => Step::Wrong,
+        Ok(_) if out.len() > before => Effect::Appended,
+        Err(Error::OutOfMemory) if out.len() == before => Effect::Refused,
+        _ => Effect::Wrong,
     }
 }
 
@@ -76,10 +76,10 @@ fn is_refused(call: Call, heap: &LocalHeap) -> Result<bool, AllocError> {
     let mut out = Vec::from_slice(heap, &[9])?;
     let (mut is_refused, mut is_right) = (false, true);
     for _ in 0..100 {
-        match step(call, &mut out) {
-            Step::Appended => {}
-            Step::Refused => is_refused = true,
-            Step::Wrong => is_right = false,
+        match effect_of(call, &mut out) {
+            Effect::Appended => {}
+            Effect::Refused => is_refused = true,
+            Effect::Wrong => is_right = false,
         }
     }
     Ok(is_refused && is_right && out.first() == Some(&9))

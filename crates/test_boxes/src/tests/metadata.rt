@@ -1,10 +1,10 @@
 //! Tests of metadata and its keys.
 
-use mp4_ported::helpers::debug_text;
 use mp4_stream::{Metadata, MetadataKey};
 use std::alloc::Global;
 use std::borrow::CowStr;
 use std::hash::{DefaultHasher, Hash, Hasher};
+use test_shared::helpers::debug_text;
 
 fn hash_of(key: &MetadataKey) -> u64 {
     let mut state = DefaultHasher::new();

@@ -1,12 +1,12 @@
 //! Tests of `mp4a` and its `esds`: an entry that is made from a configuration, and numbers that don't fit.
 
-use mp4_ported::boxes::sound::{esds_of, mp4a_of, specific};
-use mp4_ported::helpers::{Mismatch, expect_unwritable_of_size};
 use mp4_stream::{
     AacConfig, AudioObjectType, ChannelConfig, EsdsBox, FixedPointU16, Mp4aBox, SampleFreqIndex,
 };
 use std::alloc::Global;
 use std::test::Fail;
+use test_shared::boxes::sound::{esds_of, mp4a_of, specific};
+use test_shared::helpers::{Mismatch, expect_unwritable_of_size};
 
 /// Each field comes from the configuration, or differs from all fields that do.
 #[test]

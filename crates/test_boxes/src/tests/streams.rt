@@ -2,11 +2,11 @@
 
 use example_callers::append_normal;
 use example_callers::mark::MarkBox;
-use mp4_ported::boxes::{THREE, text};
-use mp4_ported::helpers::{Kind, kind_of};
 use mp4_stream::{AnyBox, ByteCursor, Error, StreamBox, read_boxes, read_boxes_as, write_boxes};
 use std::alloc::{Allocator, Global};
 use std::test::Fail;
+use test_shared::boxes::{THREE, text};
+use test_shared::helpers::{Kind, kind_of};
 
 /// Returns the kind of `outcome` and the number of items in its list, or 0 if it has none.
 pub(super) fn kind_and_count<T: Drop, A: Allocator>(

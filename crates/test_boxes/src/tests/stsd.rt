@@ -1,11 +1,11 @@
 //! Tests of `stsd`: the entry that is written if there are several, values that can't be written, and clones.
 
-use mp4_ported::boxes::entries::{AVC1, HEV1, VP09, avc1, hev1, tx3g, vp09};
-use mp4_ported::boxes::sound::{MP4A, mp4a, mp4a_of_test, stsd_of};
-use mp4_ported::made;
 use mp4_stream::{Error, Mp4aBox, StsdBox, TryClone, WriteBox};
 use std::alloc::Global;
 use std::test::Fail;
+use test_shared::boxes::entries::{AVC1, HEV1, VP09, avc1, hev1, tx3g, vp09};
+use test_shared::boxes::sound::{MP4A, mp4a, mp4a_of_test, stsd_of};
+use test_shared::made;
 
 /// Returns an `stsd` with an entry of each type except `avc1`.
 fn stsd_after_avc1() -> StsdBox {

@@ -1,16 +1,16 @@
 //! Tests of boxes that can't be written. Writing one leaves the vector unchanged.
 
-use mp4_ported::boxes::flat::mehd_short;
-use mp4_ported::boxes::tables::{elst_of, stco, tfhd_all, trun_of_three_lists};
-use mp4_ported::boxes::text::{dref_of, dref_url, emsg, emsg_long, hdlr, url};
-use mp4_ported::helpers::{Mismatch, expect_unwritable, expect_unwritable_of_size};
-use mp4_ported::made;
 use mp4_stream::{
     DinfBox, DrefBox, EmsgBox, Entries, Error, HdlrBox, MdhdBox, MehdBox, MvhdBox, StcoBox, Text,
     TfdtBox, TkhdBox, TrexBox, TrunBox, UrlBox, VmhdBox,
 };
 use std::alloc::Global;
 use std::test::Fail;
+use test_shared::boxes::flat::mehd_short;
+use test_shared::boxes::tables::{elst_of, stco, tfhd_all, trun_of_three_lists};
+use test_shared::boxes::text::{dref_of, dref_url, emsg, emsg_long, hdlr, url};
+use test_shared::helpers::{Mismatch, expect_unwritable, expect_unwritable_of_size};
+use test_shared::made;
 
 /// Returns a media header with this version and duration.
 fn media_header(alloc: Global, version: u8, duration: u64) -> Result<MdhdBox, Error> {

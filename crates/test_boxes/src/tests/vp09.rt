@@ -1,10 +1,10 @@
 //! Tests of `vp09` and its `vpcC`: an entry that is made from a configuration, and numbers that don't fit.
 
-use mp4_ported::boxes::entries::vp09_of_config;
-use mp4_ported::helpers::{Mismatch, expect_unwritable, expect_unwritable_of_size};
 use mp4_stream::{Vp09Box, Vp9Config, VpccBox};
 use std::alloc::Global;
 use std::test::Fail;
+use test_shared::boxes::entries::vp09_of_config;
+use test_shared::helpers::{Mismatch, expect_unwritable, expect_unwritable_of_size};
 
 #[test]
 fn new_vpcc_and_vp09(rt: HostRuntime) {

@@ -1,6 +1,6 @@
 //! Boxes with lists. A function for each box makes it, writes it and returns the ending.
 
-use crate::tests::extra::{Ending, bytes_of, ending};
+use crate::tests::extra::{Ending, bytes_of, declared_ending};
 use mp4_extra::{
     Av1Config, Av1c, Colr, OfType, Pssh, Sbgp, SbgpEntry, Schm, Sdtp, SdtpEntry, Sidx, SidxEntry,
     Tenc, TencPattern,
@@ -26,7 +26,7 @@ fn av1c(alloc: Global) -> Outcome {
         ..Av1Config::default()
     };
     let config_obus = bytes_of(alloc, b"\x81\x82\x83")?;
-    Ok(ending(
+    Ok(declared_ending(
         alloc,
         Av1c {
             config,
@@ -38,7 +38,7 @@ fn av1c(alloc: Global) -> Outcome {
 /// Writes the type `nclx` without its numbers.
 fn colr(alloc: Global) -> Outcome {
     let colour = OfType::Other(NCLX, bytes_of(alloc, b"\x81\x82\x83")?);
-    Ok(ending(alloc, Colr { colour }))
+    Ok(declared_ending(alloc, Colr { colour }))
 }
 
 /// Writes a number of three bits to a field of two.
@@ -48,7 +48,7 @@ fn sdtp(alloc: Global) -> Outcome {
         ..SdtpEntry::default()
     };
     let entries = Vec::from_slice(alloc, &[sample])?.into();
-    Ok(ending(
+    Ok(declared_ending(
         alloc,
         Sdtp {
             version: 0,
@@ -61,7 +61,7 @@ fn sdtp(alloc: Global) -> Outcome {
 /// Writes a box with this `version` and `grouping_type_parameter`.
 fn sbgp(alloc: Global, version: u8, grouping_type_parameter: Option<u32>) -> Outcome {
     let entries = Vec::from_slice(alloc, &[SbgpEntry::default()])?.into();
-    Ok(ending(
+    Ok(declared_ending(
         alloc,
         Sbgp {
             version,
@@ -78,7 +78,7 @@ fn sbgp(alloc: Global, version: u8, grouping_type_parameter: Option<u32>) -> Out
 /// Writes an address without its flag.
 fn schm(alloc: Global) -> Outcome {
     let scheme_uri = Some(bytes_of(alloc, b"uv\0")?);
-    Ok(ending(
+    Ok(declared_ending(
         alloc,
         Schm {
             version: 0,
@@ -95,7 +95,7 @@ fn schm(alloc: Global) -> Outcome {
 /// Writes a box with this `version` and these `key_ids`.
 fn pssh(alloc: Global, version: u8, key_ids: Option<Entries<[u8; 16]>>) -> Outcome {
     let system_data = bytes_of(alloc, b"\xc4")?;
-    Ok(ending(
+    Ok(declared_ending(
         alloc,
         Pssh {
             version,
@@ -116,7 +116,7 @@ fn pssh_with_a_key(alloc: Global) -> Outcome {
 /// Writes a box with this `version` and `default_pattern`.
 fn tenc(alloc: Global, version: u8, default_pattern: Option<TencPattern>) -> Outcome {
     let default_constant_iv = bytes_of(alloc, b"")?;
-    Ok(ending(
+    Ok(declared_ending(
         alloc,
         Tenc {
             version,
@@ -145,7 +145,7 @@ fn runs(alloc: Global, name: usize, entries: usize) -> Outcome {
     };
     let name = vec![in alloc; 0x81; name]?.into();
     let entries = vec![in alloc; packed; entries]?.into();
-    Ok(ending(
+    Ok(declared_ending(
         alloc,
         Runs {
             name,
@@ -161,7 +161,7 @@ fn strings(alloc: Global, scheme: &[u8], name: &[u8], value: &[u8]) -> Outcome {
     let scheme = bytes_of(alloc, scheme)?;
     let name = bytes_of(alloc, name)?;
     let value = bytes_of(alloc, value)?;
-    Ok(ending(
+    Ok(declared_ending(
         alloc,
         Strings {
             scheme,
@@ -178,11 +178,11 @@ fn moments(
     time: u64,
     count: usize,
 ) -> Result<Entries<Moment>, AllocError> {
-    let mut moments = Entries::new(alloc);
+    let mut moments = Vec::new(alloc);
     for _ in 0..count {
         moments.push(Moment { kind, time })?;
     }
-    Ok(moments)
+    Ok(moments.into())
 }
 
 /// Writes a box with this `version`, these `flags` and one group. The group has a `name` of this length and `count`
@@ -196,14 +196,14 @@ fn nested(
 ) -> Outcome {
     let name = vec![in alloc; 0x84; name]?.into();
     let moments = moments(alloc, 0x85, time, count)?;
-    let mut groups = Entries::new(alloc);
+    let mut groups = Vec::new(alloc);
     groups.push(Group { name, moments })?;
-    Ok(ending(
+    Ok(declared_ending(
         alloc,
         Nested {
             version,
             flags,
-            groups,
+            groups: groups.into(),
             last: 0x8a,
         },
     ))
@@ -211,7 +211,7 @@ fn nested(
 
 /// Writes two lines. The second has this `text` and `count` copies of a moment at this `time`.
 fn lines(alloc: Global, text: &[u8], time: u64, count: usize) -> Outcome {
-    let mut lines = Entries::new(alloc);
+    let mut lines = Vec::new(alloc);
     lines.push(Line {
         moments: Entries::new(alloc),
         text: bytes_of(alloc, b"\x84")?,
@@ -222,12 +222,12 @@ fn lines(alloc: Global, text: &[u8], time: u64, count: usize) -> Outcome {
         text: bytes_of(alloc, text)?,
         number: 0x8c8d,
     })?;
-    Ok(ending(
+    Ok(declared_ending(
         alloc,
         Lines {
             version: 0,
             flags: 0x81_8283,
-            lines,
+            lines: lines.into(),
         },
     ))
 }
@@ -240,7 +240,7 @@ fn sidx(
     reference: SidxEntry,
 ) -> Outcome {
     let entries = vec![in alloc; reference; count]?.into();
-    Ok(ending(
+    Ok(declared_ending(
         alloc,
         Sidx {
             version,

@@ -1,6 +1,6 @@
 //! Boxes without lists.
 
-use crate::tests::extra::{Ending, ending, ending_of};
+use crate::tests::extra::{Ending, declared_ending, ending_of};
 use mp4_extra::{Ac3Config, Colr, Cslg, Dac3, Nclx, Nmhd, OfType, Prft, Schm};
 use mp4_stream::FourCC;
 use test_extra::{Numbers, Options, Packed, Range, RangeBox};
@@ -106,27 +106,27 @@ fn numbers_that_do_not_fit(rt: HostRuntime) {
         colour: OfType::Own(NCLX),
     };
     let endings = [
-        ending(alloc, numbers(0x100_0000, 0x1f, 0x3ff)),
-        ending(alloc, numbers(0xff_ffff, 0x20, 0x3ff)),
-        ending(alloc, numbers(0xff_ffff, 0x1f, 0x400)),
-        ending(alloc, options(1, None, None)),
-        ending(alloc, options(0x80_0000, None, None)),
-        ending(alloc, options(2, Some(7), Some(7))),
-        ending(alloc, options(1, Some(7), Some(7))),
+        declared_ending(alloc, numbers(0x100_0000, 0x1f, 0x3ff)),
+        declared_ending(alloc, numbers(0xff_ffff, 0x20, 0x3ff)),
+        declared_ending(alloc, numbers(0xff_ffff, 0x1f, 0x400)),
+        declared_ending(alloc, options(1, None, None)),
+        declared_ending(alloc, options(0x80_0000, None, None)),
+        declared_ending(alloc, options(2, Some(7), Some(7))),
+        declared_ending(alloc, options(1, Some(7), Some(7))),
         ending_of(alloc, &range(2, 1, 0)),
-        ending(alloc, cslg(1 << 31, 0)),
-        ending(alloc, cslg(-(1 << 31) - 1, 0)),
-        ending(alloc, cslg(0, 1 << 32)),
-        ending(alloc, DAC3),
-        ending(alloc, colr),
-        ending(alloc, NMHD),
-        ending(alloc, PRFT),
-        ending(alloc, SCHM),
+        declared_ending(alloc, cslg(1 << 31, 0)),
+        declared_ending(alloc, cslg(-(1 << 31) - 1, 0)),
+        declared_ending(alloc, cslg(0, 1 << 32)),
+        declared_ending(alloc, DAC3),
+        declared_ending(alloc, colr),
+        declared_ending(alloc, NMHD),
+        declared_ending(alloc, PRFT),
+        declared_ending(alloc, SCHM),
     ];
     assert_eq!(rt; endings, [Ending::Unfit; 16]);
     let written = [
         ending_of(alloc, &range(2, 2, 1)),
-        ending(alloc, cslg(-(1 << 31), (1 << 31) - 1)),
+        declared_ending(alloc, cslg(-(1 << 31), (1 << 31) - 1)),
     ];
     assert_eq!(rt; written, [Ending::Written; 2]);
 }

@@ -1,6 +1,6 @@
 //! Boxes that hold boxes.
 
-use crate::tests::extra::{Ending, bytes_of, ending, ending_of};
+use crate::tests::extra::{Ending, bytes_of, declared_ending, ending_of};
 use mp4_box_tree::DeclaredContainer;
 use mp4_stream::KeptBox;
 use mp4_stream::author::Declared;
@@ -31,7 +31,7 @@ fn nested(alloc: Global, outer: u32, inner: u32) -> Result<Ending, AllocError> {
 fn outer(alloc: Global, name: &[u8]) -> Result<Ending, AllocError> {
     let name = bytes_of(alloc, name)?;
     let inner = Declared::new(Inner { name, number: 0 });
-    Ok(ending(
+    Ok(declared_ending(
         alloc,
         Outer {
             first: 0,

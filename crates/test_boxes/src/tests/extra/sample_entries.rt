@@ -92,12 +92,18 @@ fn is_audio(alloc: Global, code: u32, bytes: &[u8], fields: Option<AudioFields>)
 
 /// Returns whether the video fields `fields` are written as `bytes`.
 fn video_is(alloc: Global, fields: VisualFields, bytes: &[u8]) -> Outcome {
-    Ok(fields.to_bytes(alloc)?.as_slice() == bytes)
+    match fields.to_bytes(alloc) {
+        Ok(written) => Ok(written.as_slice() == bytes),
+        Err(_) => Err(AllocError),
+    }
 }
 
 /// Returns whether the audio fields `fields` are written as `bytes`.
 fn audio_is(alloc: Global, fields: AudioFields, bytes: &[u8]) -> Outcome {
-    Ok(fields.to_bytes(alloc)?.as_slice() == bytes)
+    match fields.to_bytes(alloc) {
+        Ok(written) => Ok(written.as_slice() == bytes),
+        Err(_) => Err(AllocError),
+    }
 }
 
 /// Returns the fields of `VISUAL`.

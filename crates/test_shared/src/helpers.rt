@@ -3,8 +3,8 @@
 
 ghost use Rattle.std.specs.Prelude.{◌≡◌, ℕ, ◌-◌, ◌^◌, ◌<◌, ◌≤◌, [], ◌∷◌, All, min, max, length, IfOk, OnOk, OnErr};
 ghost use Rattle.mp4_frame.specs.Reading.{Answers, reading};
-ghost use Rattle.mp4_ported.specs.Checks.{EndsIn, ReadsAs, cut_reading};
-ghost use Rattle.mp4_ported.specs.declared.helpers.outcomes.Kind.TheVariants as kinds;
+ghost use Rattle.test_shared.specs.Checks.{EndsIn, ReadsAs, cut_reading};
+ghost use Rattle.test_shared.specs.declared.helpers.outcomes.Kind.TheVariants as kinds;
 
 mod lists;
 mod mismatches;

@@ -3,9 +3,9 @@ use Rattle.std.proofs.Common.{◌≡◌, ap}
 use Rattle.mp4_frame.specs.Equality.{IsEquality}
 use Rattle.mp4_frame.specs.declared.box_type.BoxType.{BoxType}
 use Rattle.mp4_frame.proofs.Equality.{box_type_equality, same_variant}
-use Rattle.mp4_ported.specs.contracts.helpers.outcomes.Kind as kind
-use Rattle.mp4_ported.specs.contracts.helpers.outcomes.KindPartialEq.TheImpl as kind_eq
-use Rattle.mp4_ported.specs.contracts.helpers.outcomes.KindEq.TheImpl.Laws as kind_laws
+use Rattle.test_shared.specs.contracts.helpers.outcomes.Kind as kind
+use Rattle.test_shared.specs.contracts.helpers.outcomes.KindPartialEq.TheImpl as kind_eq
+use Rattle.test_shared.specs.contracts.helpers.outcomes.KindEq.TheImpl.Laws as kind_laws
 
 pub kind_equality : IsEquality (kind_eq.ghosts).eq
 kind_equality x y = (

@@ -1,7 +1,7 @@
 use Rattle.std.proofs.Common.{ℕ, ◌<◌, ◌≤◌}
-use Rattle.mp4_ported.specs.Checks.{EndsIn, ReadsAs, cut_reading}
-use Rattle.mp4_ported.specs.declared.helpers.outcomes.Kind.TheVariants as kinds
-use Rattle.mp4_ported.proofs.helpers.expect_end_at_cuts_below.Given as goal
+use Rattle.test_shared.specs.Checks.{EndsIn, ReadsAs, cut_reading}
+use Rattle.test_shared.specs.declared.helpers.outcomes.Kind.TheVariants as kinds
+use Rattle.test_shared.proofs.helpers.expect_end_at_cuts_below.Given as goal
 
 abbrev pub invariant-loop-length : goal.invariant-loop-length
 invariant-loop-length g l = record {

@@ -2,8 +2,8 @@
 
 ghost use Rattle.std.specs.Prelude.{◌≡◌, ◌≢◌, Err, IfSome, IfNone};
 ghost use Rattle.mp4_frame.specs.declared.error.Error.TheVariants.{InvalidData};
-ghost use Rattle.mp4_ported.specs.Checks.{kind_of};
-ghost use Rattle.mp4_ported.specs.declared.helpers.outcomes.Kind.TheVariants as kinds;
+ghost use Rattle.test_shared.specs.Checks.{kind_of};
+ghost use Rattle.test_shared.specs.declared.helpers.outcomes.Kind.TheVariants as kinds;
 
 use mp4_stream::{BoxType, Error};
 use std::alloc::{AllocError, Global};

@@ -1,7 +1,7 @@
 use Rattle.std.proofs.Common.{ℕ, ◌<◌, get_or}
 use Rattle.mp4_frame.specs.Reading.{reading}
-use Rattle.mp4_ported.specs.Checks.{ReadsAs}
-use Rattle.mp4_ported.proofs.helpers.expect_value_at_any_size.Given as goal
+use Rattle.test_shared.specs.Checks.{ReadsAs}
+use Rattle.test_shared.proofs.helpers.expect_value_at_any_size.Given as goal
 
 abbrev pub invariant-loop-size : goal.invariant-loop-size
 invariant-loop-size g l = (k : ℕ) → k < l.size-index

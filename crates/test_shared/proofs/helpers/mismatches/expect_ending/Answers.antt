@@ -1,6 +1,6 @@
 use Rattle.std.proofs.Common.{refl, sym, ◌∙◌}
-use Rattle.mp4_ported.proofs.Equality.{kind_equality}
-use Rattle.mp4_ported.proofs.helpers.mismatches.expect_ending.Goals as goal
+use Rattle.test_shared.proofs.Equality.{kind_equality}
+use Rattle.test_shared.proofs.helpers.mismatches.expect_ending.Goals as goal
 
 pub returns-then-eq : goal.returns-then-eq
 returns-then-eq c = (

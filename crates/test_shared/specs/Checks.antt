@@ -3,8 +3,8 @@ use Rattle.std.specs.Prelude.{◌≡◌, ℕ, Bool, true, List, length, take, Re
 use Rattle.mp4_frame.specs.Reading.{Reading, End, Invalid, NotFound, reading}
 use Rattle.mp4_frame.specs.declared.error.Error.{Error}
 use Rattle.mp4_frame.specs.declared.error.Error.TheVariants as errors
-use Rattle.mp4_ported.specs.declared.helpers.outcomes.Kind.{Kind}
-use Rattle.mp4_ported.specs.declared.helpers.outcomes.Kind.TheVariants as kinds
+use Rattle.test_shared.specs.declared.helpers.outcomes.Kind.{Kind}
+use Rattle.test_shared.specs.declared.helpers.outcomes.Kind.TheVariants as kinds
 
 -- The kind of a call's result.
 abbrev pub kind_of : {A : Type 0} → Result A Error → Kind

@@ -4,7 +4,7 @@ ghost use Rattle.std.specs.Prelude.{◌≡◌, List, Ok, OnOk};
 ghost use Rattle.mp4_stream.specs.Streams.{stream, boxes};
 ghost use Rattle.mp4_stream.specs.AnyBox.{format_any, known_any, reading_any};
 ghost use Rattle.mp4_stream.specs.declared.any_box.AnyBox.{AnyBox};
-ghost use Rattle.mp4_ported.specs.Checks.{EndsIn};
+ghost use Rattle.test_shared.specs.Checks.{EndsIn};
 
 use super::mismatches::{Mismatch, expect_ending, expect_position};
 use super::outcomes::{Kind, kind_of};

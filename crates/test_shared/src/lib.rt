@@ -1,0 +1,6 @@
+//! For maintainers: the parts that all tests of the codec share, which are boxes with their bytes and checks of a box.
+#![tactic(auto)]
+
+pub mod boxes;
+pub mod helpers;
+pub mod made;
