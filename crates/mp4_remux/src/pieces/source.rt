@@ -15,21 +15,21 @@ use std::marker::Model;
 /// The new file that a plan spells out over an old file. It is never made: each read finds the pieces and reads their
 /// bytes.
 #[derive(Drop)]
-pub struct PieceSource<'a, S: Source> {
+pub struct PieceSource<S: Source> {
     old: S,
-    plan: &'a Plan,
+    plan: Plan,
 }
 
-impl<'a, S: Source> Model for PieceSource<'a, S> {
+impl<S: Source> Model for PieceSource<S> {
     ghost use Rattle.std.specs.Prelude.{length, IfSome};
     ghost use Rattle.mp4_remux.specs.NewFiles.{NewFile};
     ghost use Rattle.mp4_remux.specs.Pieces.{AreWithin};
 
     ghost Value = { NewFile };
 
-    ghost view = { λ s. record { old = S.all s.old; pieces = s.plan.now } };
+    ghost view = { λ s. record { old = S.all s.old; pieces = s.plan } };
 
-    ghost invariant = { λ s. IfSome (S.all s.old) (λ B. AreWithin (length B) s.plan.now) };
+    ghost invariant = { λ s. IfSome (S.all s.old) (λ B. AreWithin (length B) s.plan) };
 }
 
 /// Fills `buffer` with the bytes of the old file from `begin` to `end`, after the first `skip`.
@@ -118,13 +118,13 @@ fn fill<S: Source>(old: &mut S, plan: &Plan, at: u64, buffer: &mut [u8]) -> io::
     Ok(())
 }
 
-impl<'a, S: Source> PieceSource<'a, S> {
+impl<S: Source> PieceSource<S> {
     /// Makes a source of `plan` over the file `old`. Returns `None` if a piece is not in that file.
-    pub fn new(old: S, plan: &'a Plan) -> io::Result<Option<PieceSource<'a, S>>>
+    pub fn new(old: S, plan: Plan) -> io::Result<Option<PieceSource<S>>>
         ensures old { IfOk result (λ source. IfSome source (λ s. s.old ≡ S.all old)) }
-        ensures pieces { IfOk result (λ source. IfSome source (λ s. s.pieces ≡ plan.now)) }
+        ensures pieces { IfOk result (λ source. IfSome source (λ s. s.pieces ≡ plan)) }
         ensures within { IfOk result
-            (λ source. IfSome source (λ _. IfSome (S.all old) (λ B. AreWithin (length B) plan.now))) }
+            (λ source. IfSome source (λ _. IfSome (S.all old) (λ B. AreWithin (length B) plan))) }
     {
         let mut old = old;
         let length = old.length()?;
@@ -135,7 +135,7 @@ impl<'a, S: Source> PieceSource<'a, S> {
     }
 }
 
-impl<'a, S: Source> Source for PieceSource<'a, S> {
+impl<S: Source> Source for PieceSource<S> {
     ghost all = { bytes_by };
 
     fn length(&mut self) -> io::Result<u64> {
@@ -143,6 +143,6 @@ impl<'a, S: Source> Source for PieceSource<'a, S> {
     }
 
     fn read_at(&mut self, at: u64, buffer: &mut [u8]) -> io::Result<()> {
-        fill(&mut self.old, self.plan, at, buffer)
+        fill(&mut self.old, &self.plan, at, buffer)
     }
 }
