@@ -12,7 +12,7 @@ import tempfile
 
 TOP = os.path.dirname(os.path.dirname(os.path.abspath(__file__)))
 # The argument of the run that builds a program.
-ARGUMENTS = {"mp4_boxes": "list", "mp4_inspect": "-"}
+ARGUMENTS = {"mp4_boxes": "list", "mp4_inspect": "-", "mp4_remux_program": "--version"}
 
 
 class Failed(Exception):

@@ -401,7 +401,7 @@ class Install(unittest.TestCase):
         exports(self.it)
 
     def test_installed_programs(self):
-        for name in ("mp4boxes", "mp4inspect"):
+        for name in ("mp4boxes", "mp4inspect", "mp4remux"):
             subprocess.run([os.path.join(self.it.prefix, "bin", name)], check=True, stdout=subprocess.DEVNULL)
 
     def test_missing_prover(self):
