@@ -23,8 +23,8 @@ A fault is an Mp4Error, whose `status` is a number of the header `mp4_box_codec.
 Traceback (most recent call last):
 mp4_box_codec.Mp4Error: unexpected end of input
 
-The module looks for the library in the file that the variable MP4_BOX_CODEC_LIB names, in the folders `lib` of
-Python's prefix and of tools/install, and then in the folders in which the system has its libraries.
+The module looks for the library in the file that the variable MP4_BOX_CODEC_LIB names, in its wheel, in the folders
+`lib` of Python's prefix and of tools/install, and then in the folders in which the system has its libraries.
 """
 
 import array
@@ -359,8 +359,11 @@ def _places() -> Iterator[str]:
     if given:
         yield given
         return
-    for prefix in (sys.prefix, os.path.expanduser("~/.local"), "/usr/local"):
-        path = os.path.join(prefix, "lib", "libmp4_box_codec.so.0")
+    # A wheel has the library beside the module.
+    folders = [os.path.join(os.path.dirname(os.path.abspath(__file__)), "mp4_box_codec.libs")]
+    folders += [os.path.join(it, "lib") for it in (sys.prefix, os.path.expanduser("~/.local"), "/usr/local")]
+    for folder in folders:
+        path = os.path.join(folder, "libmp4_box_codec.so.0")
         if os.path.exists(path):
             yield path
     yield ctypes.util.find_library("mp4_box_codec") or "libmp4_box_codec.so.0"
@@ -373,7 +376,8 @@ def _is_for(version: int, module: str) -> bool:
 
 
 def _load() -> ctypes.CDLL:
-    path, remedy = next(_places()), "run tools/install, or set MP4_BOX_CODEC_LIB to libmp4_box_codec.so.0"
+    path = next(_places())
+    remedy = "install the wheel, run tools/install, or set MP4_BOX_CODEC_LIB to libmp4_box_codec.so.0"
     try:
         library = ctypes.CDLL(path)
         library.mp4_version.argtypes, library.mp4_version.restype = (), u32
