@@ -8,7 +8,7 @@ import time
 import building
 
 # The paths whose sums the file PROOF has, beside those of the crates.
-SOURCES = ("HANDLES", "VERSION", "bindings", "crates.txt", "docs", "include", "tools")
+SOURCES = ("HANDLES", "VERSION", "bindings", "crates.txt", "docs", "examples", "include", "tools")
 UNPROVED = """NOTHING WAS PROVED
 
 These files were compiled without proof, for a first look. They are not those of a release.

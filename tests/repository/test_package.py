@@ -181,7 +181,7 @@ class Packages(Working):
     def documents(self):
         """Returns the files that only packages have, by their paths below the prefix."""
         tracked = lambda *paths: succeeds("git", "ls-files", *paths, cwd=checkout()).split()
-        names = tracked("README.md", "CHANGELOG.md", "docs", ":!docs/man", ":!docs/completions")
+        names = tracked("README.md", "CHANGELOG.md", "docs", "examples", ":!docs/man", ":!docs/completions")
         crate = [it.removeprefix("bindings/") for it in tracked("bindings/rust")]
         return [*(f"{DOCUMENTS}/{it}" for it in names), *(f"share/mp4-box-codec/{it}" for it in crate)]
 
