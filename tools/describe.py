@@ -438,6 +438,8 @@ def channel_mapping(_, names):
 def flac_block_data(_, names):
     length, (stream_names, (checksum, others)) = names
     stream = numbers(stream_names, (16, 16, 24, 24, 20, 3, 5, 36))
+    # The numbers of channels and of bits are stored without 1.
+    stream[5]["added"] = stream[6]["added"] = 1
     return number(length, 24) + under("BlockType is 0 and Length is 34", stream + run(checksum)) + under(
         "another BlockType or Length", run(others))
 
@@ -480,10 +482,13 @@ def descriptions(walk):
     found = optional(number(constant("DESCRIPTION_LENGTH"), 32))
     for kind, fields in kinds.items():
         for field in under(f"grouping_type is {kind}", fields):
-            if not any(it["name"] == field["name"] for it in found):
+            known = next((it for it in found if it["name"] == field["name"]), None)
+            if known is None:
                 found.append(field)
             else:
-                next(it for it in found if it["name"] == field["name"])["when"] += f" or {kind}"
+                known["when"] += f" or {kind}"
+                # A kind may have more reserved bits than another.
+                known["bits"] = max(known["bits"], field["bits"])
     return found
 
 
@@ -542,7 +547,8 @@ def value_schema(field):
         if field.get("signed"):
             largest = 2 ** bits - 1 if bits == 64 else 2 ** (bits - 1) - 1
             return {"type": "integer", "minimum": -2 ** (bits - 1), "maximum": largest}
-        return {"type": "integer", "minimum": 0, "maximum": 2 ** bits - 1}
+        added = field.get("added", 0)
+        return {"type": "integer", "minimum": added, "maximum": 2 ** bits - 1 + added}
     if kind == "fixed":
         return {"type": "number"}
     if kind == "code":
@@ -606,6 +612,7 @@ def words_of(field):
     if kind in ("number", "flags", "date", "fixed"):
         bits = " or ".join(str(it) for it in field.get("bits_by_version", [field["bits"]])) + " bits"
         bits = "1 bit" if bits == "1 bits" else bits + (", signed" if field.get("signed") else "")
+        bits += f", plus {field['added']}" if "added" in field else ""
         more = {"flags": "flags, ", "date": "seconds since the start of 1904, ", "fixed": "fixed-point number, "}
         after = f", {field['fraction_bits']} after the point" if kind == "fixed" else ""
         return more.get(kind, "number, ") + bits + after

@@ -33,12 +33,17 @@ BOXES = [
     # the STREAMINFO of a stream of 44,100 Hz, two channels and 16 bits, and another block
     full_box(0, 0, b"dfLa", u32(34), u16(4096, 8192), u32(3)[1:], u32(4)[1:], u64(44100 << 44 | 1 << 41 | 15 << 36 | 5),
              bytes(range(0x81, 0x91)), u32(0x84000002), b"ab"),
+    # the most channels and bits
+    full_box(0, 0, b"dfLa", u32(0x80000022), u16(1, 1), bytes(6), u64(1 << 44 | 7 << 41 | 31 << 36), bytes(16)),
     full_box(0, 0, b"elng", b"\xff\0"), full_box(0, 1, b"schm", b"cenc", u32(0x10000), b"\xff\0"),
     # each kind of description, one with its own length, and entries that are cut
     full_box(1, 0, b"sgpd", b"roll", u32(2, 1), u16(0xFFFE)), full_box(0, 0, b"sgpd", b"rap ", u32(1), b"\x85"),
     full_box(0, 0, b"sgpd", b"tele", u32(1), b"\x86"), full_box(1, 0, b"sgpd", b"abcd", u32(0, 1, 3), b"abc"),
     full_box(1, 0, b"sgpd", b"seig", u32(0, 1, 25), b"\x07\x19\1\0", bytes(range(0x81, 0x91)), b"\4abcd"),
     full_box(1, 0, b"sgpd", b"roll", u32(2, 2), u16(3)),
+    # reserved bits of two kinds
+    full_box(1, 0, b"sgpd", b"seig", u32(20, 1), b"\xff\x19\1\x08", bytes(16)),
+    full_box(1, 0, b"sgpd", b"tele", u32(1, 1), b"\xff"),
     # three sizes of four bits
     full_box(0, 0, b"stz2", u32(4, 3), b"\x12\x34"),
     # numbers of one, two and three bytes, and reserved bits
