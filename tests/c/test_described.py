@@ -1,12 +1,13 @@
 """Compares what `mp4_fields` gives for boxes with the schema that tools/describe.py makes from their declarations:
-names in their order, kinds and ranges. The boxes are those of tests/rows, and some here, so that each member occurs."""
+names in their order, kinds and ranges. Reads them as the classes for Python too, which lose nothing. The boxes are
+those of tests/rows, and some here, so that each member occurs."""
 
 import collections
+import dataclasses
 import importlib
 import json
 import os
 import re
-import typing
 import unittest
 
 from tests.built import TOP, codec
@@ -95,26 +96,48 @@ def members(schema, path):
 class Described(unittest.TestCase):
     maxDiff = None
 
-    def test_typed_dictionaries(self):
-        """The module for Python has a function for each box, and its result has the members of the schema."""
-        codec()
-        typed = importlib.import_module("mp4_box_fields")
+    @classmethod
+    def setUpClass(cls):
+        cls.buffers = [*dict.fromkeys(bytes(row.buffer) for _, row in rows())]
+
+    def test_members_of_classes(self):
+        """The module for Python has a class for each box, with the members of the schema."""
+        module = codec()
         with open(os.path.join(TOP, "docs/boxes.schema.json"), encoding="utf-8") as file:
             schemas = json.load(file)["$defs"]
+        classes = importlib.import_module("mp4_box_codec._fields").CLASSES
         for code, schema in schemas.items():
-            found = typing.get_type_hints(getattr(typed, code))["return"]
-            self.assertEqual({*typing.get_type_hints(found)}, {*schema["properties"]}, code)
-            self.assertEqual(found.__required_keys__, {*schema["required"]}, code)
-        shape = box(b"pasp", u32(4, 3))
-        self.assertEqual(typed.pasp(shape), {"hSpacing": 4, "vSpacing": 3})
-        self.assertRaises(ValueError, typed.btrt, shape)
+            found = {it.metadata.get("name", it.name): it for it in dataclasses.fields(classes[code])}
+            self.assertEqual({*found}, {*schema["properties"]}, code)
+            needed = {name for name, it in found.items() if it.default is dataclasses.MISSING}
+            self.assertLessEqual(needed, {*schema["required"]}, code)
+        self.assertEqual(module.read(box(b"pasp", u32(4, 3))), module.Pasp(hSpacing=4, vSpacing=3))
+        with self.assertRaisesRegex(module.Mp4Error, "this box is a 'pasp', not a 'btrt'"):
+            module.Btrt.read(box(b"pasp", u32(4, 3)))
+
+    def test_classes_of_structs(self):
+        """A box that a class has read is written in its normal form."""
+        library, count = codec(), collections.Counter()
+        classes = importlib.import_module("mp4_box_codec._fields").CLASSES
+        for buffer in self.buffers:
+            kind, size = classes.get(buffer[4:8].decode("latin-1")), int.from_bytes(buffer[:4], "big")
+            if kind is None or not kind._call or not 8 <= size <= len(buffer):
+                continue
+            try:
+                value, normal = kind.read(buffer[:size]), library.normal(buffer[:size])
+            except library.Mp4Error:
+                continue
+            count[kind.code] += 1
+            self.assertEqual(value.write(), normal, value)
+        self.assertEqual([it for it, kind in classes.items() if kind._call and not count[it]], [])
 
     def test_rows(self):
         library = codec()
+        typed = importlib.import_module("mp4_box_codec._fields")
         with open(os.path.join(TOP, "docs/boxes.schema.json"), encoding="utf-8") as file:
             schemas = json.load(file)["$defs"]
         seen, count, found = set(), collections.Counter(), []
-        for buffer in [*(bytes(row.buffer) for _, row in rows()), *BOXES]:
+        for buffer in [*self.buffers, *BOXES]:
             code = buffer[4:8].decode("latin-1")
             if code in schemas:
                 try:
@@ -123,6 +146,9 @@ class Described(unittest.TestCase):
                     continue
                 count[code] += 1
                 found += faults(fields, schemas[code], code, seen)
+                value = typed.of_json(typed.CLASSES[code], fields)
+                if typed.to_json(value) != fields:
+                    found.append(f"{code}: the class has {value}")
         self.assertEqual(found, [])
         self.assertEqual([it for it in schemas if not count[it]], [], "there is no box of these types")
         unseen = set().union(*(members(schema, code) for code, schema in schemas.items())) - seen

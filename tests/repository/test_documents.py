@@ -16,7 +16,7 @@
 - Tables: the eight counted tables and `trun` take their rows by `read_table` or `read_rows`, and these two functions
   take them by one call of `ByteCursor::take_rows`.
 - Descriptions: docs/boxes.json, docs/boxes.schema.json and docs/FIELDS.md are what tools/describe.py makes from the
-  declarations of the boxes.
+  declarations of the boxes. The classes for Python are what tools/python_classes.py makes from the first of them.
 - Lines: no line of a source or a document has more than 120 columns, except attributes, which `rt fmt` keeps on one
   line.
 
@@ -30,7 +30,7 @@ import unittest
 from pathlib import Path
 
 from tests.rows import rows
-from tools import describe
+from tools import describe, python_classes
 
 TOP = Path(__file__).resolve().parent.parent.parent
 WORDS = re.compile(r"\b(as of|the same|the record of|the name of|a clause for each)\b|^== of")
@@ -270,7 +270,7 @@ def compare_version():
     version = read(TOP / "VERSION").strip()
     names = [("include/mp4_box_codec.h", r'^#define MP4_VERSION "(.*)"$'), ("CHANGELOG.md", r"^## ([^\s,]+)")]
     names += [(f"bindings/{it}", r'^version = "(.*)"$') for it in ("rust/Cargo.toml", "python/pyproject.toml")]
-    names += [("bindings/python/mp4_box_codec.py", r'^__version__ = "(.*)"$')]
+    names += [("bindings/python/mp4_box_codec/_library.py", r'^__version__ = "(.*)"$')]
     for name, pattern in names:
         said = re.search(pattern, read(TOP / name), re.M)
         if not said or said[1] != version:
@@ -294,7 +294,8 @@ def compare_links(file):
 
 def compare_widths():
     found = [*tree("crates/**/*.rt"), *tree("crates/**/*.antt"), *tree("include/*"), *tree("bench/**/*.rs")]
-    found += [*tree("bindings/**/*.py"), *tree("bindings/**/*.rs"), *tree("tests/**/*.py"), *tree("**/*.md")]
+    found += [*tree("bindings/**/*.py"), *tree("bindings/**/*.rs"), *tree("examples/**/*.py"), *tree("tests/**/*.py")]
+    found += [*tree("**/*.md")]
     found += [it for folder in ("bench", "tests", "tests/*", "tools") for it in tree(f"{folder}/*")
               if it.suffix not in (*TEXTS, ".py")]
     for file in found:
@@ -344,8 +345,9 @@ class Documents(unittest.TestCase):
         self.agree()
 
     def test_descriptions(self):
-        for path, text in describe.files().items():
-            self.assertEqual(read(TOP / path), text, f"{path}: run tools/describe.py --write")
+        for tool in (describe, python_classes):
+            for path, text in tool.files().items():
+                self.assertEqual(read(TOP / path), text, f"{path}: run {tool.__name__.replace('.', '/')}.py --write")
 
     def test_links(self):
         for file in tree("**/*.md"):
