@@ -174,8 +174,11 @@ def sentences(kinds):
     """Returns triples of a file, a sentence in which (n) stands for a number, and these numbers."""
     tests, (gate, script) = [name for name, _ in rows()], edits("*")
     header, changes = read(TOP / "include/mp4_box_codec.h"), read(TOP / "tests/prover/wrong-definitions.txt")
+    classes = python_classes.module().count("(Fields):\n")
     return [
         ("README.md", "the (n) of the crate `mp4`", kinds),
+        ("CHANGELOG.md", "a class with types for each of (n) types of boxes", classes),
+        ("docs/PYTHON.md", "There are classes for (n) types", classes),
         ("docs/ASSURANCE.md", "prover refuses (n) wrong .*? has the prover refuse (n) wrong bodies more", gate, script),
         ("docs/C.md", "`mp4_box_codec.h` declares (n) functions", header.count("\nuint32_t mp4_")),
         ("docs/OWN-BOX.md", "The codec reads (n) types of boxes", kinds),
