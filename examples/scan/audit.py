@@ -1,5 +1,5 @@
 #!/usr/bin/env python3
-"""Audits MP4 files by the module mp4_box_codec, and prints a line of JSON for each: its tracks with their codecs and
+"""Audits MP4 files by the package mp4_box_codec, and prints a line of JSON for each: its tracks with their codecs and
 durations, and its faults.
 
     audit.py FILE..
@@ -11,8 +11,7 @@ import os
 import stat
 import sys
 
-import mp4_box_codec
-from mp4_box_codec import CUT, LEAF, NO_HEADER, OUT_OF_MEMORY, SMALL, UNKNOWN_BOX, Mp4Error
+from mp4_box_codec import CUT, LEAF, NO_HEADER, OUT_OF_MEMORY, SMALL, UNKNOWN_BOX, Mp4Error, calls
 
 # The faults of a box that the walk over a file finds.
 FAULTS = {
@@ -22,13 +21,13 @@ FAULTS = {
 }
 # The most faults that are reported of a file. A hostile file may have millions.
 MOST_FAULTS = 100
-# The bytes of a box that show whether the module reads boxes of its type.
+# The bytes of a box that show whether the package reads boxes of its type.
 FRONT = 32
 # The durations that stand for an unknown one: 0 in files with fragments, and the largest of versions 0 and 1.
 UNKNOWN = (0, 2**32 - 1, 2**64 - 1)
 # The boxes that are read into values. The fields of the others are read too, but only for faults.
-VALUES = {it: getattr(mp4_box_codec, it.strip()) for it in ("mvhd", "mehd", "tkhd", "mdhd", "hdlr", "url ")}
-VALUES.update(mp4_box_codec.TABLES)
+VALUES = {it: getattr(calls, it.strip()) for it in ("mvhd", "mehd", "tkhd", "mdhd", "hdlr", "url ")}
+VALUES.update(calls.TABLES)
 
 
 def seconds_of(duration, timescale):
@@ -37,9 +36,9 @@ def seconds_of(duration, timescale):
 
 
 def is_read(front):
-    """Returns whether the module reads boxes of the type of the box with the first bytes `front`."""
+    """Returns whether the package reads boxes of the type of the box with the first bytes `front`."""
     try:
-        mp4_box_codec.fields(front)
+        calls.fields(front)
     except Mp4Error as why:
         return why.status != UNKNOWN_BOX
     return True
@@ -73,12 +72,12 @@ class Audit:
             box.length == 4 and self.read(box.position, 4) == bytes(4))
 
     def value_of(self, box):
-        """Returns what the module reads of a box, or None if it reads no boxes of this type, or if the box has a
+        """Returns what the package reads of a box, or None if it reads no boxes of this type, or if the box has a
         fault."""
         if not is_read(self.read(box.position, min(box.length, FRONT))):
             return None
         try:
-            return VALUES.get(box.name, mp4_box_codec.fields)(self.read(box.position, box.length))
+            return VALUES.get(box.name, calls.fields)(self.read(box.position, box.length))
         except Mp4Error as why:
             if why.status == OUT_OF_MEMORY:
                 raise MemoryError(str(why)) from None
@@ -145,7 +144,8 @@ def audit(path):
             found = Audit(file)
             if not found.length:
                 return {"file": path, "failure": "the file is empty"}
-            for box in mp4_box_codec.tree(file):
+            # `File` would map the file into memory, and end the process if the file becomes shorter meanwhile.
+            for box in calls.tree(file):
                 found.visit(box)
             return {"file": path, **found.report()}
     except (OSError, MemoryError, Mp4Error) as why:

@@ -32,6 +32,7 @@ import venv
 import zipfile
 
 from tests.built import TOP, NamesSkipped, built, library, source
+from tests.c.test_bindings import written_examples
 from tests.files.stored import stored
 from tests.repository.test_install import EXAMPLE, files_below, made_library
 
@@ -49,6 +50,8 @@ TIME = 1767323045
 PROGRAMS = sorted(f"bin/{name}" for name, _ in building.PROGRAMS.values())
 SHARED = f"libmp4_box_codec.so.{VERSION}"
 DOCUMENTS = "share/doc/mp4-box-codec"
+# The library in a wheel, which is in the folder of the package for Python.
+IN_WHEEL = f"mp4_box_codec/{building.SONAME}"
 # A program instead of `rt`. Its gate prints the file `said` and ends with the status in the file `status`. It proves no
 # library, and leaves one for C.
 RT = """#!/bin/sh
@@ -201,7 +204,7 @@ class Packages(Working):
         for page in os.listdir(os.path.join(top, "share", "man", "man1")):
             self.assertIn(f'"mp4-box-codec {VERSION}"', text_of(top, "share", "man", "man1", page))
         with zipfile.ZipFile(self.wheel) as archive:
-            module = archive.read("mp4_box_codec.py").decode()
+            module = archive.read("mp4_box_codec/_library.py").decode()
         self.assertIn(f'\n__version__ = "{VERSION}"\n', module)
 
     def test_tarball(self):
@@ -331,7 +334,10 @@ class Packages(Working):
         names = [*entries]
         self.assertEqual(names[-1], f"{info}/RECORD")
         self.assertEqual({it.date_time for it, _ in entries.values()}, {(2026, 1, 2, 3, 4, 4)})
-        wanted = ["mp4_box_codec.libs/libmp4_box_codec.so.0", "mp4_box_codec.py", "mp4_box_fields.py"]
+        modules = [it for it in files_below(os.path.join(checkout(), "bindings", "python"))
+                   if it.startswith("mp4_box_codec/")]
+        self.assertLess({f"mp4_box_codec/{it}" for it in ("__init__.py", "calls.py", "py.typed")}, {*modules})
+        wanted = [IN_WHEEL, *modules]
         wanted += [f"{info}/{it}" for it in ("LICENSE", "METADATA", "PROOF", "RECORD", "THIRD-PARTY", "WHEEL")]
         self.assertEqual(sorted(names), sorted(wanted))
         rows = dict(line.split(",", 1) for line in entries[f"{info}/RECORD"][1].decode().strip().split("\n"))
@@ -340,7 +346,7 @@ class Packages(Working):
         for name, row in rows.items():
             digest = base64.urlsafe_b64encode(hashlib.sha256(entries[name][1]).digest()).decode().rstrip("=")
             self.assertEqual(row, f"sha256={digest},{len(entries[name][1])}", name)
-        for name in ("mp4_box_codec.py", "mp4_box_fields.py"):
+        for name in modules:
             self.assertEqual(entries[name][1].decode(), source("bindings", "python", name))
         tags = re.search(r"-py3-none-(.*)\.whl$", self.wheel)[1].split(".")
         stated = re.findall(r"^Tag: (.*)$", entries[f"{info}/WHEEL"][1].decode(), re.M)
@@ -352,7 +358,7 @@ class Packages(Working):
     def test_system_of_the_wheel(self):
         # A tag manylinux_2_N says that the library needs nothing except a C library of version 2.N.
         with zipfile.ZipFile(self.wheel) as archive:
-            path = archive.extract("mp4_box_codec.libs/libmp4_box_codec.so.0", tempfile.mkdtemp(dir=self.work))
+            path = archive.extract(IN_WHEEL, tempfile.mkdtemp(dir=self.work))
         limit, said = re.search(r"manylinux_2_(\d+)_x86_64", self.wheel), succeeds("readelf", "-dVnW", path)
         versions = {int(it) for it in re.findall(r"Name: GLIBC_2\.(\d+)", said)}
         self.assertLessEqual(max(versions, default=0), int(limit[1]))
@@ -370,16 +376,16 @@ class Packages(Working):
         python, before = os.path.join(place, "bin", "python"), files_below(place)
         env = {name: it for name, it in os.environ.items() if name != "MP4_BOX_CODEC_LIB"}
         env |= {"PYTHONDONTWRITEBYTECODE": "1", "PIP_DISABLE_PIP_VERSION_CHECK": "1", "PIP_ROOT_USER_ACTION": "ignore"}
-        run = lambda *words: succeeds(python, *words, env=env, cwd=self.work)
+        run = lambda *words, cwd=self.work: succeeds(python, *words, env=env, cwd=cwd)
         run("-m", "pip", "install", "--no-index", "--no-compile", self.wheel)
-        program = ("import sys, mp4_box_codec, mp4_box_fields\n"
-                   "print(mp4_box_codec._library._name)\nprint(mp4_box_codec.__version__)\n"
-                   "with open(sys.argv[1], 'rb') as file:\n    print(*(it.path for it in mp4_box_codec.tree(file)))\n")
+        program = ("import sys, mp4_box_codec\n"
+                   "print(mp4_box_codec.calls._library._name)\nprint(mp4_box_codec.__version__)\n"
+                   "with mp4_box_codec.File(sys.argv[1]) as file:\n    print(*(it.path for it in file.walk()))\n")
         path, version, boxes = run("-c", program, self.movie(self.work)).rstrip("\n").split("\n")
-        self.assertTrue(path.startswith(place) and path.endswith(f"/mp4_box_codec.libs/{building.SONAME}"), path)
+        self.assertTrue(path.startswith(place) and path.endswith(f"/{IN_WHEEL}"), path)
         self.assertEqual(version, VERSION)
         self.assertEqual(boxes.split()[:3], ["ftyp", "moov", "moov/mvhd"])
-        run("-m", "doctest", os.path.join(TOP, "docs", "PYTHON.md"))
+        run("-m", "doctest", "-o", "ELLIPSIS", written_examples(self.work), cwd=TOP)
         run("-m", "pip", "uninstall", "-y", "mp4-box-codec")
         self.assertEqual([it for it in files_below(place) if it not in before and "__pycache__" not in it], [])
 
@@ -389,7 +395,7 @@ class Packages(Working):
         with zipfile.ZipFile(self.wheel) as archive:
             info = f"mp4_box_codec-{VERSION}+unproved.dist-info"
             self.assertEqual(archive.read(f"{info}/PROOF").decode(), text)
-            shared = hashlib.sha256(archive.read("mp4_box_codec.libs/libmp4_box_codec.so.0")).hexdigest()
+            shared = hashlib.sha256(archive.read(IN_WHEEL)).hexdigest()
         self.assertTrue(text.startswith("NOTHING WAS PROVED\n"))
         self.assertNotIn("Proved: ", text)
         name = succeeds("git", "rev-parse", "HEAD", cwd=checkout()).strip()
