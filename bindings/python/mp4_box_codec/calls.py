@@ -1,43 +1,42 @@
-"""Reads and writes the boxes of MP4 files (ISO/IEC 14496-12) by libmp4_box_codec, for Python programs.
+"""The calls of libmp4_box_codec, a function for each, with numbers and codes as in the header `mp4_box_codec.h`. The
+classes of `mp4_box_codec` are over these.
 
 You can pass bytes as any object with a buffer: `bytes`, a `bytearray`, a `memoryview`, an `mmap.mmap` of a file. The
 module doesn't copy them, so no other thread may write to them during a call; docs/PYTHON.md has all rules.
 
->>> import mp4_box_codec
+>>> from mp4_box_codec import calls
 >>> stts = bytes.fromhex("00000018 73747473 00000000 00000001 00000003 0000000a")
->>> mp4_box_codec.list(stts)
+>>> calls.list(stts)
 [Span(position=0, length=24, header_length=8, code=1937011827)]
->>> mp4_box_codec.list(stts)[0].name
+>>> calls.list(stts)[0].name
 'stts'
->>> mp4_box_codec.stts(stts).rows
+>>> calls.stts(stts).rows
 [SttsRow(sample_count=3, sample_delta=10)]
 
 Rows of one number are an array of the module `array`:
 
->>> mp4_box_codec.stss(bytes.fromhex("00000018 73747373 00000000 00000002 00000001 00000006"))
+>>> calls.stss(bytes.fromhex("00000018 73747373 00000000 00000002 00000001 00000006"))
 Table(version=0, flags=0, rows=array('I', [1, 6]))
 
-A fault is an Mp4Error, whose `status` is a number of the header `mp4_box_codec.h`:
+A fault is an Mp4Error, whose `status` is a number of the header:
 
->>> mp4_box_codec.check(stts[:20])
+>>> calls.check(stts[:20])
 Traceback (most recent call last):
 mp4_box_codec.Mp4Error: unexpected end of input
-
-The module looks for the library in the file that the variable MP4_BOX_CODEC_LIB names, in the folders `lib` of
-Python's prefix and of tools/install, and then in the folders in which the system has its libraries.
 """
 
 import array
 import collections
 import ctypes
-import ctypes.util
+import functools
 import json
 import operator
 import os
-import sys
-from typing import Any, Callable, Dict, Iterator, List, NamedTuple, Optional, Tuple, Type, Union
+from struct import Struct, calcsize
+from typing import Any, Callable, Dict, Iterator, List, NamedTuple, Optional, Tuple, Union
 
-__version__ = "0.1.0"
+from ._library import load
+
 OK, END_OF_INPUT, INVALID_DATA, BOX_NOT_FOUND, OUT_OF_MEMORY, NO_ROOM = 0, 1, 2, 3, 12, 100
 NO_TRACK, UNKNOWN_BOX = 101, 102
 # The values of `what` of a Box: the state of a box, or of the place where one should begin.
@@ -49,11 +48,21 @@ i8, i16, i32, i64 = ctypes.c_int8, ctypes.c_int16, ctypes.c_int32, ctypes.c_int6
 
 class Mp4Error(ValueError):
     """An error of a call, with a status of the library. If the module refuses a value before it calls the library, the
-    status is INVALID_DATA, and the text names the field and the value."""
+    status is INVALID_DATA, and the text names the field, the value, and what was expected. `position` and `path` are
+    those of the box in its file, or None if the bytes are of no file."""
 
-    def __init__(self, status: int, refused: str = "") -> None:
-        super().__init__(status_text(status) + (f": {refused}" if refused else ""))
-        self.status = status
+    def __init__(
+        self, status: int, refused: str = "", *, position: Optional[int] = None, path: Optional[str] = None
+    ) -> None:
+        text = status_text(status) + (f": {refused}" if refused else "")
+        place = path or ("the file" if path == "" else "")
+        place += f" at {position}" if position is not None and path != "" else ""
+        super().__init__(f"{place}: {text}" if place else text)
+        self.status, self.refused, self.position, self.path = status, refused, position, path
+
+    def at(self, position: int, path: str) -> "Mp4Error":
+        """Returns this error with the place of a box."""
+        return Mp4Error(self.status, self.refused, position=position, path=path)
 
 
 class _Numbers(NamedTuple):
@@ -63,6 +72,7 @@ class _Numbers(NamedTuple):
     words: str
 
 
+@functools.lru_cache(maxsize=None)
 def _numbers(kind: Any, bits: int) -> _Numbers:
     """Returns the numbers of `bits` bits, signed if `kind` is."""
     low = -(1 << bits - 1) if kind(-1).value < 0 else 0
@@ -77,9 +87,11 @@ _u1, _u2, _u3, _u4, _u6 = (_numbers(u8, bits) for bits in (1, 2, 3, 4, 6))
 _u24 = _numbers(u32, 24)
 _up_stream = _Numbers(u8, (0, 2), "0 or 2")
 _object_type = _Numbers(u8, (*range(31), *range(32, 96)), "a number from 0 to 95 without 31")
-# A time has 64 bits in version 1 of its box, else 32.
-_time = _numbers(u64, 64)
+# A time has 64 bits in version 1 of its box, else 32. These two are recognized by their identity.
+_time, _signed_time = _Numbers(*_numbers(u64, 64)), _Numbers(*_numbers(i64, 64))
 _short_time = _Numbers(u64, range(1 << 32), f"{_numbers(u64, 32).words} (a time has 64 bits in version 1 only)")
+_short_signed_time = _Numbers(
+    i64, _numbers(i32, 32).allowed, f"{_numbers(i32, 32).words} (a time has 64 bits in version 1 only)")
 
 
 def _refused(name: str, given: Any, wanted: str) -> Mp4Error:
@@ -181,13 +193,13 @@ class Span(NamedTuple):
 
 
 class Place(NamedTuple):
-    """A box at a path: the fields of a span, and `is_whole`, which is 0 if the box is cut, or if the `length` that its
-    header states is smaller than the header."""
+    """A box at a path: the fields of a span, and `is_whole`, which is False if the box is cut, or if the `length` that
+    its header states is smaller than the header."""
     position: int
     length: int
     header_length: int
     code: int
-    is_whole: int
+    is_whole: bool
 
 
 class Box(NamedTuple):
@@ -220,7 +232,7 @@ class Box(NamedTuple):
 
 class Sample(NamedTuple):
     """A sample of a track, with its offset in the file. Times are in the timescale of the media; `description` and
-    `chunk` count from 1, and `sync` is 1 for a sync sample."""
+    `chunk` count from 1, and `sync` is True for a sync sample."""
     offset: int
     decode_time: int
     rendering_offset: int
@@ -228,7 +240,12 @@ class Sample(NamedTuple):
     duration: int
     description: int
     chunk: int
-    sync: int
+    sync: bool
+
+    @property
+    def presentation_time(self) -> int:
+        """The time at which the sample is shown, without the edits of the track."""
+        return self.decode_time + self.rendering_offset
 
 
 class SttsRow(NamedTuple):
@@ -252,7 +269,7 @@ class StscRow(NamedTuple):
 
 
 class ElstRow(NamedTuple):
-    """An edit. An empty edit has the largest `media_time` of its width: 2^64 - 1 in version 1, else 2^32 - 1."""
+    """An edit. An empty edit has the `media_time` -1."""
     segment_duration: int
     media_time: int
     media_rate: int
@@ -260,7 +277,8 @@ class ElstRow(NamedTuple):
 
 
 class TrunRow(NamedTuple):
-    """The fields that a run of a track fragment has for one sample; the others are 0."""
+    """The fields that a run of a track fragment has for one sample; the others are 0. The composition offset is signed
+    in every version."""
     duration: int
     size: int
     flags: int
@@ -296,17 +314,32 @@ class Run(NamedTuple):
     rows: List[TrunRow]
 
 
-def _struct(name: str, **fields: Any) -> Type[ctypes.Structure]:
+# A type checker wants the names of `collections.namedtuple` in the source.
+_named: Any = collections.namedtuple
+_STRUCTS: Dict[str, Any] = {}
+
+
+def _struct(name: str, **fields: Any) -> Any:
     """Defines a struct of the header. Each field is a type of C, or the numbers that it holds if they are fewer."""
     narrow = {field: it for field, it in fields.items() if isinstance(it, _Numbers)}
     types = [(field, it.kind if isinstance(it, _Numbers) else it) for field, it in fields.items()]
-    return type(name, (ctypes.Structure,), {"_fields_": types, "_narrow_": narrow})
+    _STRUCTS[name] = type(name, (ctypes.Structure,), {"_fields_": types, "_narrow_": narrow})
+    return _STRUCTS[name]
+
+
+def numbers_of(name: str, field: str, version: int) -> Optional[_Numbers]:
+    """Returns the numbers that a field of the struct `name` holds in a version of its box, if it holds one number."""
+    made = _STRUCTS[name]
+    kind = dict(made._fields_).get(field)
+    return _holds(made, field, kind, version) if kind in _ALL else None
 
 
 def _holds(struct: Any, field: str, kind: Any, version: Any) -> _Numbers:
     """Returns the numbers that `field`, of the type `kind`, holds in a version of its box."""
-    numbers = struct._narrow_.get(field) or _ALL[kind]
-    return _short_time if numbers is _time and version != 1 else numbers
+    numbers: _Numbers = struct._narrow_.get(field) or _ALL[kind]
+    if version == 1:
+        return numbers
+    return _short_time if numbers is _time else _short_signed_time if numbers is _signed_time else numbers
 
 
 # The structs of the header, in its order.
@@ -325,8 +358,9 @@ _TRUN = _struct("mp4_trun_table", count=size, flags=_u24, sample_count=u32, data
 _STTS = _struct("mp4_stts_row", sample_count=u32, sample_delta=u32)
 _CTTS = _struct("mp4_ctts_row", sample_count=u32, sample_offset=i32)
 _STSC = _struct("mp4_stsc_row", first_chunk=u32, samples_per_chunk=u32, sample_description_index=u32, first_sample=u32)
-_ELST = _struct("mp4_elst_row", segment_duration=_time, media_time=_time, media_rate=u16, media_rate_fraction=u16)
-_RUN = _struct("mp4_trun_row", duration=u32, size=u32, flags=u32, composition_offset=u32)
+_ELST = _struct("mp4_elst_row", segment_duration=_time, media_time=_signed_time, media_rate=u16,
+                media_rate_fraction=u16)
+_RUN = _struct("mp4_trun_row", duration=u32, size=u32, flags=u32, composition_offset=i32)
 # Numbers that are returned as an array, by the letter of their type in an array.
 _ARRAYS = {u8: "B", u32: "I", u64: "Q"}
 
@@ -354,45 +388,13 @@ class _Bytes:
         ctypes.pythonapi.PyBuffer_Release(ctypes.byref(self.buffer))
 
 
-def _places() -> Iterator[str]:
-    given = os.environ.get("MP4_BOX_CODEC_LIB")
-    if given:
-        yield given
-        return
-    for prefix in (sys.prefix, os.path.expanduser("~/.local"), "/usr/local"):
-        path = os.path.join(prefix, "lib", "libmp4_box_codec.so.0")
-        if os.path.exists(path):
-            yield path
-    yield ctypes.util.find_library("mp4_box_codec") or "libmp4_box_codec.so.0"
-
-
-def _is_for(version: int, module: str) -> bool:
-    """Returns whether a library of the version `version` has the calls that a module of the version `module` expects.
-    Before 1.0.0 a minor version may change them, so the major and the minor version have to be equal."""
-    return f"{version // 1000000}.{version // 1000 % 1000}" == module.rpartition(".")[0]
-
-
-def _load() -> ctypes.CDLL:
-    path, remedy = next(_places()), "run tools/install, or set MP4_BOX_CODEC_LIB to libmp4_box_codec.so.0"
-    try:
-        library = ctypes.CDLL(path)
-        library.mp4_version.argtypes, library.mp4_version.restype = (), u32
-    except (OSError, AttributeError) as why:
-        raise ImportError(f"{path} can't be loaded ({why}): {remedy}") from None
-    found = library.mp4_version()
-    if not _is_for(found, __version__):
-        text = f"{found // 1000000}.{found // 1000 % 1000}.{found % 1000}"
-        wanted = __version__.rpartition(".")[0]
-        raise ImportError(f"{path} is version {text}, and this module needs version {wanted}.x: {remedy}")
-    return library
-
-
-_library = _load()
+_library = load()
 
 
 def _function(name: str, *types: Any) -> Callable[..., int]:
-    function = getattr(_library, name)
-    function.argtypes, function.restype = types, u32
+    found: Any = getattr(_library, name)
+    found.argtypes, found.restype = types, u32
+    function: Callable[..., int] = found
     return function
 
 
@@ -416,14 +418,25 @@ def _filled(name: str, row: Any, summary: Any, *more: Any) -> Callable[..., Tupl
     return call
 
 
+_LETTER = {u8: "B", u16: "H", u32: "I", u64: "Q", i32: "i", i64: "q"}
+
+
+def _packed(row: Any) -> Struct:
+    """Returns how the module `struct` unpacks a struct of the header."""
+    text, end = "=", 0
+    for field, kind in row._fields_:
+        text += "x" * (getattr(row, field).offset - end) + ("?" if field == "sync" else _LETTER[kind])
+        end = calcsize(text)
+    return Struct(text + "x" * (ctypes.sizeof(row) - end))
+
+
 def _listed(rows: Any, into: Any, row: Any) -> Any:
     """Returns the rows as an array of numbers, or as a list of named tuples."""
     if row in _ARRAYS:
         found = array.array(_ARRAYS[row])
         found.frombytes(bytes(rows))
         return found
-    names = [it[0] for it in row._fields_]
-    return [into(*(getattr(it, name) for name in names)) for it in rows]
+    return [*map(into._make, _packed(row).iter_unpack(bytes(rows)))]
 
 
 def _table(name: str, row: Any, into: Any, words: str) -> Callable[[Any], Table]:
@@ -444,7 +457,7 @@ stss = _table("stss", u32, None, "numbers of the sync samples (8.6.2), counted f
 stts = _table("stts", _STTS, SttsRow, "durations of the samples (8.6.1.2)")
 ctts = _table("ctts", _CTTS, CttsRow, "composition offsets of the samples (8.6.1.3)")
 stsc = _table("stsc", _STSC, StscRow, "chunks of the samples (8.7.4)")
-elst = _table("elst", _ELST, ElstRow, "edits of a track (8.6.6)")
+_elst = _table("elst", _ELST, ElstRow, "edits of a track (8.6.6)")
 _stsz, _trun = _filled("mp4_stsz", u32, _STSZ), _filled("mp4_trun", _RUN, _TRUN)
 _list, _normal = _filled("mp4_list", _SPAN, size), _filled("mp4_normal", u8, size)
 _fields = _filled("mp4_fields", u8, size)
@@ -466,6 +479,14 @@ def status_text(status: int) -> str:
     text, count = ctypes.create_string_buffer(200), size()
     _status_text(_number(status, _ALL[u32], "status"), text, len(text), count)
     return text.raw[:count.value].decode("ascii")
+
+
+def elst(data: Any) -> Table:
+    """Returns the edits of a track (8.6.6) in the elst at the front of the bytes."""
+    found = _elst(data)
+    if found.version == 1:
+        return found
+    return found._replace(rows=[it._replace(media_time=i32(it.media_time).value) for it in found.rows])
 
 
 def stsz(data: Any) -> Sizes:
@@ -539,7 +560,7 @@ def _struct_of(struct: Any, value: Any, name: str, **given: Any) -> Any:
 def _box(name: str, words: str, **fields: Any) -> Tuple[Any, Callable[[Any], Any], Callable[[Any], bytes]]:
     """Returns the named tuple of a box of fixed fields, and the functions that read and write the box."""
     struct = _struct(f"mp4_{name}_box", **fields)
-    made: Any = collections.namedtuple(name.capitalize(), fields)
+    made = _named(name.capitalize(), fields)
     made.__doc__ = f"{words}; fixed-point numbers are raw."
     reads = _function(f"mp4_{name}", ctypes.c_void_p, size, ctypes.c_void_p)
     writes = _function(f"mp4_write_{name}", ctypes.c_void_p, ctypes.c_void_p, size, ctypes.c_void_p)
@@ -627,6 +648,8 @@ def _writes_table(name: str, row: Any, table: Any, into: Any = None) -> Callable
     def write(value: Any) -> bytes:
         head = _struct_of(table, value, name)
         rows = _rows_of(_field(value, "rows", name), row, into, f"{name}.rows", head.version)
+        if row is _ELST and head.version != 1:
+            rows = [(duration, time & 0xFFFFFFFF, *rate) for duration, time, *rate in rows]
         given = _array(row, rows)
         return _written(function, ctypes.addressof(head), ctypes.addressof(given), len(rows))
 
@@ -654,8 +677,10 @@ def _tuple_of(struct: Any, **given: Any) -> Any:
             value = bytes(value) if value._type_ is u8 else tuple(value)
         fields[name] = _tuple_of(value) if isinstance(value, ctypes.Structure) else value
     fields = {name: it for name, it in {**fields, **given}.items() if name not in _COUNTS and it is not ...}
-    named = collections.namedtuple(kind.__name__[4:-4].capitalize(), fields)
-    return _NAMED.setdefault((kind, *fields), named)(**fields)
+    key = (kind, *fields)
+    if key not in _NAMED:
+        _NAMED[key] = _named(kind.__name__[4:-4].capitalize(), fields)
+    return _NAMED[key](**fields)
 
 
 _NAMED: Dict[Any, Any] = {}
@@ -933,7 +958,8 @@ def normal(data: Any) -> bytes:
 
 def list(data: Any) -> List[Span]:
     """Lists the boxes at the top level of the bytes, in their order. It reads only their headers."""
-    return _listed(_list(data)[0], Span, _SPAN)
+    found: List[Span] = _listed(_list(data)[0], Span, _SPAN)
+    return found
 
 
 def fields(data: Any) -> Dict[str, Any]:
@@ -944,7 +970,8 @@ def fields(data: Any) -> Dict[str, Any]:
     >>> fields(bytes.fromhex("00000010 70617370 00000004 00000003"))
     {'hSpacing': 4, 'vSpacing': 3}
     """
-    return json.loads(bytes(_fields(data)[0]))
+    found: Dict[str, Any] = json.loads(bytes(_fields(data)[0]))
+    return found
 
 
 def find(data: Any, path: str) -> Optional[Place]:
@@ -957,13 +984,14 @@ def find(data: Any, path: str) -> Optional[Place]:
         return None
     if status != OK:
         raise Mp4Error(status)
-    return Place(place.position, place.length, place.header_length, place.code, place.is_whole)
+    return Place(place.position, place.length, place.header_length, place.code, place.is_whole == 1)
 
 
 def samples(data: Any, track_id: int) -> List[Sample]:
     """Returns the samples of the first track with a track_ID (8.3.2) in the bytes of a file, by the tables of its
     `stbl`. A track without `stsz`, `stz2` and chunks has none."""
-    return _listed(_samples(data, _number(track_id, _ALL[u32], "track_id"))[0], Sample, _SAMPLE)
+    found: List[Sample] = _listed(_samples(data, _number(track_id, _ALL[u32], "track_id"))[0], Sample, _SAMPLE)
+    return found
 
 
 def fragment_samples(data: Any, track_id: int) -> List[Sample]:
@@ -976,7 +1004,9 @@ def fragment_samples(data: Any, track_id: int) -> List[Sample]:
     Traceback (most recent call last):
     mp4_box_codec.Mp4Error: box not found
     """
-    return _listed(_fragment_samples(data, _number(track_id, _ALL[u32], "track_id"))[0], Sample, _SAMPLE)
+    number = _number(track_id, _ALL[u32], "track_id")
+    found: List[Sample] = _listed(_fragment_samples(data, number)[0], Sample, _SAMPLE)
+    return found
 
 
 TABLES: Dict[str, Callable[[Any], Any]] = {
@@ -992,16 +1022,17 @@ def _reader(file: Any) -> Tuple[int, Callable[[int, int], bytes]]:
     except TypeError:
         def read(position: int, count: int) -> bytes:
             file.seek(position)
-            return file.read(count)
+            found: bytes = file.read(count)
+            return found
 
         return file.seek(0, os.SEEK_END), read
     return len(whole), lambda position, count: bytes(whole[position:position + count])
 
 
 def tree(file: Any) -> List[Box]:
-    """Returns all boxes of a file, each followed by the boxes inside. The file is its bytes, or a binary file that can
-    seek, of which it reads only headers and the bytes that say where the boxes inside begin. A fault is an element
-    whose `what` names it.
+    """Returns all boxes of a file, each followed by the boxes inside. The file is its bytes, or a path or a binary file
+    that can seek, of which it reads only headers and the bytes that say where the boxes inside begin. A fault is an
+    element whose `what` names it.
 
     >>> movie = bytes.fromhex("00000020 6d6f6f76 00000008 7472616b 00000010 7472616b 00000008 6d646961")
     >>> [(it.path, it.position, it.length) for it in tree(movie)]
@@ -1010,8 +1041,13 @@ def tree(file: Any) -> List[Box]:
     >>> tree(io.BytesIO(movie)) == tree(movie)
     True
     """
+    if isinstance(file, (str, os.PathLike)):
+        with open(file, "rb") as opened:
+            return tree(opened)
     length, read = _reader(file)
-    walk, box, found, around = _WALK(), _BOX(), [], [("", {})]
+    walk, box = _WALK(), _BOX()
+    found: List[Box] = []
+    around: List[Tuple[str, Dict[int, int]]] = [("", {})]
     status = _walk_begin(_number(length, _ALL[u64], "the length of the file"), walk)
     while status == OK and walk.wanted:
         given = _bytes(read(walk.position, walk.wanted), "what the file reads")
