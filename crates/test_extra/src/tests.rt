@@ -1,10 +1,12 @@
 //! Tests of values that cannot be written: a number does not fit its field, or a part belongs to another version or
 //! flag. Such values cannot be read from bytes, so a row (bytes with the expected result) cannot cover them.
 
+mod items;
 mod lists;
 mod numbers;
 mod parents;
 mod sample_entries;
+mod subjects;
 
 use mp4_stream::author::{Declared, DeclaredBox};
 use mp4_stream::{Entries, Error, Result as Made, WriteBox};
