@@ -23,6 +23,52 @@ def _fields(code: str, data: Any) -> Any:
     return mp4_box_codec.fields(data)
 
 
+class _Alac(TypedDict):
+    version: int
+    flags: int
+    frameLength: int
+    compatibleVersion: int
+    bitDepth: int
+    pb: int
+    mb: int
+    kb: int
+    numChannels: int
+    maxRun: int
+    maxFrameBytes: int
+    avgBitRate: int
+    sampleRate: int
+
+
+class Alac(_Alac, total=False):
+    """The fields of `alac` (ALAC, "Magic cookie description")."""
+
+    ALACChannelLayoutInfo: str
+
+
+def alac(data: Any) -> Alac:
+    """Returns the fields of `alac`: the configuration of an Apple Lossless decoder (ALAC, "Magic cookie
+    description")."""
+    return _fields("alac", data)
+
+
+class _AuxC(TypedDict):
+    version: int
+    flags: int
+    aux_type: str
+
+
+class AuxC(_AuxC, total=False):
+    """The fields of `auxC` (ISO/IEC 23008-12, 6.5.8)."""
+
+    aux_type_hex: str
+    aux_subtype: str
+
+
+def auxC(data: Any) -> AuxC:
+    """Returns the fields of `auxC`: the role of an auxiliary image (ISO/IEC 23008-12, 6.5.8)."""
+    return _fields("auxC", data)
+
+
 class _Av1C(TypedDict):
     marker: int
     version: int
@@ -64,6 +110,62 @@ class Btrt(TypedDict):
 def btrt(data: Any) -> Btrt:
     """Returns the fields of `btrt`: the bit rates of the media of a sample entry (ISO/IEC 14496-12, 8.5.2.2)."""
     return _fields("btrt", data)
+
+
+class _ChanMChannelDescriptions(TypedDict):
+    mChannelLabel: int
+    mChannelFlags: int
+    mCoordinates_0: str
+    mCoordinates_1: str
+    mCoordinates_2: str
+
+
+class ChanMChannelDescriptions(_ChanMChannelDescriptions, total=False):
+    """An entry of `mChannelDescriptions`."""
+
+    mChannelLabel_name: str
+
+
+class _Chan(TypedDict):
+    version: int
+    flags: int
+    mChannelLayoutTag: int
+    mChannelBitmap: int
+    mNumberChannelDescriptions: int
+    mChannelDescriptions: List[ChanMChannelDescriptions]
+
+
+class Chan(_Chan, total=False):
+    """The fields of `chan` (QuickTime File Format, "Audio channel layout atom")."""
+
+    mChannelLayoutTag_name: str
+
+
+def chan(data: Any) -> Chan:
+    """Returns the fields of `chan`: the channels of a sound (QuickTime File Format, "Audio channel layout atom")."""
+    return _fields("chan", data)
+
+
+class _Chnl(TypedDict):
+    version: int
+    flags: int
+
+
+class Chnl(_Chnl, total=False):
+    """The fields of `chnl` (ISO/IEC 14496-12, 12.2.4)."""
+
+    stream_structure: int
+    stream_structure_name: str
+    stream_structure: int
+    stream_structure_name: str
+    format_ordering: int
+    baseChannelCount: int
+    data_bytes: str
+
+
+def chnl(data: Any) -> Chnl:
+    """Returns the fields of `chnl`: the channels of a sound (ISO/IEC 14496-12, 12.2.4)."""
+    return _fields("chnl", data)
 
 
 class Clap(TypedDict):
@@ -277,6 +379,54 @@ def dOps(data: Any) -> DOps:
     return _fields("dOps", data)
 
 
+class _DvcC(TypedDict):
+    dv_version_major: int
+    dv_version_minor: int
+    dv_profile: int
+    dv_level: int
+    rpu_present_flag: int
+    el_present_flag: int
+    bl_present_flag: int
+    dv_bl_signal_compatibility_id: int
+
+
+class DvcC(_DvcC, total=False):
+    """The fields of `dvcC` (Dolby Vision Streams Within the ISO Base Media File Format, "Configuration boxes")."""
+
+    dv_bl_signal_compatibility_id_name: str
+    reserved: int
+
+
+def dvcC(data: Any) -> DvcC:
+    """Returns the fields of `dvcC`: the configuration of Dolby Vision in profiles up to 7 (Dolby Vision Streams Within
+    the ISO Base Media File Format, "Configuration boxes")."""
+    return _fields("dvcC", data)
+
+
+class _DvvC(TypedDict):
+    dv_version_major: int
+    dv_version_minor: int
+    dv_profile: int
+    dv_level: int
+    rpu_present_flag: int
+    el_present_flag: int
+    bl_present_flag: int
+    dv_bl_signal_compatibility_id: int
+
+
+class DvvC(_DvvC, total=False):
+    """The fields of `dvvC` (Dolby Vision Streams Within the ISO Base Media File Format, "Configuration boxes")."""
+
+    dv_bl_signal_compatibility_id_name: str
+    reserved: int
+
+
+def dvvC(data: Any) -> DvvC:
+    """Returns the fields of `dvvC`: the configuration of Dolby Vision in profiles 8 to 10 (Dolby Vision Streams Within
+    the ISO Base Media File Format, "Configuration boxes")."""
+    return _fields("dvvC", data)
+
+
 class _Elng(TypedDict):
     version: int
     flags: int
@@ -294,6 +444,40 @@ def elng(data: Any) -> Elng:
     return _fields("elng", data)
 
 
+class _Enda(TypedDict):
+    littleEndian: int
+
+
+class Enda(_Enda, total=False):
+    """The fields of `enda` (QuickTime File Format, "Endian atom")."""
+
+    littleEndian_name: str
+
+
+def enda(data: Any) -> Enda:
+    """Returns the fields of `enda`: the order of the bytes of a sound's samples (QuickTime File Format, "Endian
+    atom")."""
+    return _fields("enda", data)
+
+
+class _Fiel(TypedDict):
+    fields: int
+    detail: int
+
+
+class Fiel(_Fiel, total=False):
+    """The fields of `fiel` (QuickTime File Format, "Video sample description extensions")."""
+
+    fields_name: str
+    detail_name: str
+
+
+def fiel(data: Any) -> Fiel:
+    """Returns the fields of `fiel`: the fields of a video (QuickTime File Format, "Video sample description
+    extensions")."""
+    return _fields("fiel", data)
+
+
 class Frma(TypedDict):
     """The fields of `frma` (ISO/IEC 14496-12, 8.12.2)."""
 
@@ -304,6 +488,40 @@ def frma(data: Any) -> Frma:
     """Returns the fields of `frma`: the format of media before a transformation such as encryption (ISO/IEC 14496-12,
     8.12.2)."""
     return _fields("frma", data)
+
+
+class Gmin(TypedDict):
+    """The fields of `gmin` (QuickTime File Format, "Base media info atom")."""
+
+    version: int
+    flags: int
+    graphicsmode: int
+    opcolor_red: int
+    opcolor_green: int
+    opcolor_blue: int
+    balance: float
+
+
+def gmin(data: Any) -> Gmin:
+    """Returns the fields of `gmin`: the media information of tracks other than video and sound (QuickTime File Format,
+    "Base media info atom")."""
+    return _fields("gmin", data)
+
+
+class Hmhd(TypedDict):
+    """The fields of `hmhd` (ISO/IEC 14496-12, 12.4.2)."""
+
+    version: int
+    flags: int
+    maxPDUsize: int
+    avgPDUsize: int
+    maxbitrate: int
+    avgbitrate: int
+
+
+def hmhd(data: Any) -> Hmhd:
+    """Returns the fields of `hmhd`: the media header of hints (ISO/IEC 14496-12, 12.4.2)."""
+    return _fields("hmhd", data)
 
 
 class _HvcCArrays(TypedDict):
@@ -355,6 +573,149 @@ def hvcC(data: Any) -> HvcC:
     return _fields("hvcC", data)
 
 
+class _Iloc(TypedDict):
+    version: int
+    flags: int
+    offset_size: int
+    length_size: int
+    base_offset_size: int
+    index_size: int
+    item_count: int
+
+
+class Iloc(_Iloc, total=False):
+    """The fields of `iloc` (ISO/IEC 14496-12, 8.11.3)."""
+
+    data_bytes: str
+
+
+def iloc(data: Any) -> Iloc:
+    """Returns the fields of `iloc`: the places of items (ISO/IEC 14496-12, 8.11.3)."""
+    return _fields("iloc", data)
+
+
+class _Imir(TypedDict):
+    axis: int
+
+
+class Imir(_Imir, total=False):
+    """The fields of `imir` (ISO/IEC 23008-12, 6.5.12)."""
+
+    reserved: int
+
+
+def imir(data: Any) -> Imir:
+    """Returns the fields of `imir`: the mirroring of an image (ISO/IEC 23008-12, 6.5.12)."""
+    return _fields("imir", data)
+
+
+class _Infe(TypedDict):
+    version: int
+    flags: int
+    item_ID: int
+    item_protection_index: int
+    item_name: str
+
+
+class Infe(_Infe, total=False):
+    """The fields of `infe` (ISO/IEC 14496-12, 8.11.6)."""
+
+    item_type: str
+    item_name_hex: str
+    content_type: str
+    content_type_hex: str
+    item_uri_type: str
+    item_uri_type_hex: str
+    data_bytes: str
+
+
+def infe(data: Any) -> Infe:
+    """Returns the fields of `infe`: an item (ISO/IEC 14496-12, 8.11.6)."""
+    return _fields("infe", data)
+
+
+class Iods(TypedDict):
+    """The fields of `iods` (ISO/IEC 14496-14, 5.1)."""
+
+    version: int
+    flags: int
+    OD: str
+
+
+def iods(data: Any) -> Iods:
+    """Returns the fields of `iods`: the description of an MPEG-4 presentation (ISO/IEC 14496-14, 5.1)."""
+    return _fields("iods", data)
+
+
+class IpmaEntriesAssociations(TypedDict):
+    """An entry of `associations`."""
+
+    essential: int
+    property_index: int
+
+
+class IpmaEntriesAssociations(TypedDict):
+    """An entry of `associations`."""
+
+    essential: int
+    property_index: int
+
+
+class _IpmaEntries(TypedDict):
+    item_ID: int
+
+
+class IpmaEntries(_IpmaEntries, total=False):
+    """An entry of `entries`."""
+
+    associations: List[IpmaEntriesAssociations]
+    associations: List[IpmaEntriesAssociations]
+
+
+class Ipma(TypedDict):
+    """The fields of `ipma` (ISO/IEC 23008-12, 9.3.1)."""
+
+    version: int
+    flags: int
+    entry_count: int
+    entries: List[IpmaEntries]
+
+
+def ipma(data: Any) -> Ipma:
+    """Returns the fields of `ipma`: the properties of items (ISO/IEC 23008-12, 9.3.1)."""
+    return _fields("ipma", data)
+
+
+class _Irot(TypedDict):
+    angle: int
+
+
+class Irot(_Irot, total=False):
+    """The fields of `irot` (ISO/IEC 23008-12, 6.5.10)."""
+
+    reserved: int
+    angle_name: str
+
+
+def irot(data: Any) -> Irot:
+    """Returns the fields of `irot`: the rotation of an image (ISO/IEC 23008-12, 6.5.10)."""
+    return _fields("irot", data)
+
+
+class Ispe(TypedDict):
+    """The fields of `ispe` (ISO/IEC 23008-12, 6.5.3)."""
+
+    version: int
+    flags: int
+    image_width: int
+    image_height: int
+
+
+def ispe(data: Any) -> Ispe:
+    """Returns the fields of `ispe`: the size of an image (ISO/IEC 23008-12, 6.5.3)."""
+    return _fields("ispe", data)
+
+
 class _KeysEntries(TypedDict):
     Key_namespace: str
     Key_value: str
@@ -400,6 +761,23 @@ def kind(data: Any) -> Kind:
     return _fields("kind", data)
 
 
+class _Leva(TypedDict):
+    version: int
+    flags: int
+    level_count: int
+
+
+class Leva(_Leva, total=False):
+    """The fields of `leva` (ISO/IEC 14496-12, 8.8.13)."""
+
+    data_bytes: str
+
+
+def leva(data: Any) -> Leva:
+    """Returns the fields of `leva`: the levels into which fragments are divided (ISO/IEC 14496-12, 8.8.13)."""
+    return _fields("leva", data)
+
+
 class Mdcv(TypedDict):
     """The fields of `mdcv` (ISO/IEC 14496-12, 12.1.7)."""
 
@@ -420,6 +798,23 @@ def mdcv(data: Any) -> Mdcv:
     return _fields("mdcv", data)
 
 
+class _Mean(TypedDict):
+    version: int
+    flags: int
+    value: str
+
+
+class Mean(_Mean, total=False):
+    """The fields of `mean` (iTunes, metadata)."""
+
+    value_hex: str
+
+
+def mean(data: Any) -> Mean:
+    """Returns the fields of `mean`: the domain of the name of a metadata item (iTunes, metadata)."""
+    return _fields("mean", data)
+
+
 class Mfro(TypedDict):
     """The fields of `mfro` (ISO/IEC 14496-12, 8.8.11)."""
 
@@ -431,6 +826,23 @@ class Mfro(TypedDict):
 def mfro(data: Any) -> Mfro:
     """Returns the fields of `mfro`: the size of the enclosing `mfra` (ISO/IEC 14496-12, 8.8.11)."""
     return _fields("mfro", data)
+
+
+class _Name(TypedDict):
+    version: int
+    flags: int
+    value: str
+
+
+class Name(_Name, total=False):
+    """The fields of `name` (iTunes, metadata)."""
+
+    value_hex: str
+
+
+def name(data: Any) -> Name:
+    """Returns the fields of `name`: the name of a metadata item (iTunes, metadata)."""
+    return _fields("name", data)
 
 
 class Nmhd(TypedDict):
@@ -456,6 +868,36 @@ class Pasp(TypedDict):
 def pasp(data: Any) -> Pasp:
     """Returns the fields of `pasp`: the aspect ratio of a video's pixels (ISO/IEC 14496-12, 12.1.4)."""
     return _fields("pasp", data)
+
+
+class Pitm(TypedDict):
+    """The fields of `pitm` (ISO/IEC 14496-12, 8.11.4)."""
+
+    version: int
+    flags: int
+    item_ID: int
+
+
+def pitm(data: Any) -> Pitm:
+    """Returns the fields of `pitm`: the item to show first, such as the main image of a file (ISO/IEC 14496-12,
+    8.11.4)."""
+    return _fields("pitm", data)
+
+
+class _Pixi(TypedDict):
+    version: int
+    flags: int
+
+
+class Pixi(_Pixi, total=False):
+    """The fields of `pixi` (ISO/IEC 23008-12, 6.5.6)."""
+
+    bits_per_channel: List[int]
+
+
+def pixi(data: Any) -> Pixi:
+    """Returns the fields of `pixi`: the number and the size of an image's channels (ISO/IEC 23008-12, 6.5.6)."""
+    return _fields("pixi", data)
 
 
 class Prft(TypedDict):
@@ -484,6 +926,7 @@ class _Pssh(TypedDict):
 class Pssh(_Pssh, total=False):
     """The fields of `pssh` (ISO/IEC 23001-7, 8.1)."""
 
+    SystemID_name: str
     KID: List[str]
 
 
@@ -679,6 +1122,60 @@ def sidx(data: Any) -> Sidx:
     return _fields("sidx", data)
 
 
+class Srat(TypedDict):
+    """The fields of `srat` (ISO/IEC 14496-12, 12.2.3)."""
+
+    version: int
+    flags: int
+    sampling_rate: int
+
+
+def srat(data: Any) -> Srat:
+    """Returns the fields of `srat`: the sample rate of a sound, if the 16 bits of its sample entry can't hold it
+    (ISO/IEC 14496-12, 12.2.3)."""
+    return _fields("srat", data)
+
+
+class SsixSubsegmentsRanges(TypedDict):
+    """An entry of `ranges`."""
+
+    level: int
+    range_size: int
+
+
+class SsixSubsegments(TypedDict):
+    """An entry of `subsegments`."""
+
+    range_count: int
+    ranges: List[SsixSubsegmentsRanges]
+
+
+class Ssix(TypedDict):
+    """The fields of `ssix` (ISO/IEC 14496-12, 8.16.4)."""
+
+    version: int
+    flags: int
+    subsegment_count: int
+    subsegments: List[SsixSubsegments]
+
+
+def ssix(data: Any) -> Ssix:
+    """Returns the fields of `ssix`: the levels of the bytes of subsegments (ISO/IEC 14496-12, 8.16.4)."""
+    return _fields("ssix", data)
+
+
+class Sthd(TypedDict):
+    """The fields of `sthd` (ISO/IEC 14496-12, 12.6.2)."""
+
+    version: int
+    flags: int
+
+
+def sthd(data: Any) -> Sthd:
+    """Returns the fields of `sthd`: the media header of subtitles (ISO/IEC 14496-12, 12.6.2)."""
+    return _fields("sthd", data)
+
+
 class _Stpp(TypedDict):
     data_reference_index: int
     namespace: str
@@ -764,6 +1261,26 @@ def subs(data: Any) -> Subs:
     return _fields("subs", data)
 
 
+class _Tcmi(TypedDict):
+    version: int
+    flags: int
+    text_font: int
+    text_face: int
+    text_size: int
+
+
+class Tcmi(_Tcmi, total=False):
+    """The fields of `tcmi` (QuickTime File Format, "Timecode media information atom")."""
+
+    data_bytes: str
+
+
+def tcmi(data: Any) -> Tcmi:
+    """Returns the fields of `tcmi`: the look of a time code (QuickTime File Format, "Timecode media information
+    atom")."""
+    return _fields("tcmi", data)
+
+
 class _Tenc(TypedDict):
     version: int
     flags: int
@@ -784,6 +1301,25 @@ class Tenc(_Tenc, total=False):
 def tenc(data: Any) -> Tenc:
     """Returns the fields of `tenc`: the encryption parameters of a track's samples (ISO/IEC 23001-7, 8.2)."""
     return _fields("tenc", data)
+
+
+class Text(TypedDict):
+    """The fields of `text` (QuickTime File Format, "Text media information atom")."""
+
+    a: float
+    b: float
+    u: float
+    c: float
+    d: float
+    v: float
+    x: float
+    y: float
+    w: float
+
+
+def text(data: Any) -> Text:
+    """Returns the fields of `text`: the place of text (QuickTime File Format, "Text media information atom")."""
+    return _fields("text", data)
 
 
 class TfraEntries(TypedDict):
@@ -836,6 +1372,25 @@ class Tref(TypedDict):
 def tref(data: Any) -> Tref:
     """Returns the fields of `tref`: the references of a track to other tracks (ISO/IEC 14496-12, 8.3.3)."""
     return _fields("tref", data)
+
+
+class _VvcC(TypedDict):
+    version: int
+    flags: int
+    LengthSizeMinusOne: int
+    ptl_present_flag: int
+
+
+class VvcC(_VvcC, total=False):
+    """The fields of `vvcC` (ISO/IEC 14496-15, 11.2.4.2)."""
+
+    reserved: int
+    data_bytes: str
+
+
+def vvcC(data: Any) -> VvcC:
+    """Returns the fields of `vvcC`: the configuration of a VVC decoder (ISO/IEC 14496-15, 11.2.4.2)."""
+    return _fields("vvcC", data)
 
 
 class _Wvtt(TypedDict):

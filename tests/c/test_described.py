@@ -39,6 +39,8 @@ BOXES = [
     full_box(0, 0, b"sgpd", b"tele", u32(1), b"\x86"), full_box(1, 0, b"sgpd", b"abcd", u32(0, 1, 3), b"abc"),
     full_box(1, 0, b"sgpd", b"seig", u32(0, 1, 25), b"\x07\x19\1\0", bytes(range(0x81, 0x91)), b"\4abcd"),
     full_box(1, 0, b"sgpd", b"roll", u32(2, 2), u16(3)),
+    # the system Widevine
+    full_box(0, 0, b"pssh", bytes.fromhex("edef8ba979d64acea3c827dcd51d21ed"), u32(1), b"\1"),
     # three sizes of four bits
     full_box(0, 0, b"stz2", u32(4, 3), b"\x12\x34"),
     # numbers of one, two and three bytes, and reserved bits
