@@ -415,8 +415,12 @@ class Walk:
     def condition(self, shape):
         name, arguments = shape
         argument = arguments[0][0] if arguments else ""
-        found = {"FromVersion": f"version >= {argument}", "VersionZero": "version is 0"}
-        return found.get(name) or f"flags & {int(argument, 0):#x}"
+        if name == "VersionZero":
+            return "version is 0"
+        if name == "FromVersion":
+            return f"version >= {argument}"
+        flags = f"flags & {int(argument, 0):#x}"
+        return f"{flags} is 0" if name == "WithoutFlags" else flags
 
 
 # ---- Shapes of one box each: the fields that they show, which a function of the box hands to a sink
@@ -575,11 +579,22 @@ def value_schema(field):
     raise Unknown(f"the kind {kind}")
 
 
+def either(one, other):
+    """Returns the schema of the values of both schemas, which differ only in their ranges."""
+    if not isinstance(one, dict):
+        return one
+    widest = {"minimum": min, "maximum": max}
+    return {key: widest.get(key, either)(it, other[key]) for key, it in one.items()}
+
+
 def schema_of(fields):
-    """Returns the schema of an object with these fields."""
+    """Returns the schema of an object with these fields. A field may have other widths under other conditions."""
     required = [field["name"] for field in fields if not field.get("optional") and "when" not in field]
-    return {"type": "object", "properties": {field["name"]: value_schema(field) for field in fields},
-            "required": required, "additionalProperties": False}
+    found = {}
+    for field in fields:
+        name, schema = field["name"], value_schema(field)
+        found[name] = either(found[name], schema) if name in found else schema
+    return {"type": "object", "properties": found, "required": required, "additionalProperties": False}
 
 
 def description():
@@ -700,9 +715,11 @@ def python_type(field, name, classes):
 
 
 def python_class(name, words, fields, classes):
-    """Adds the typed dictionary of these fields to `classes`, after those inside."""
-    members = [(field["name"], python_type(field, name, classes), field.get("optional") or "when" in field)
-               for field in fields]
+    """Adds the typed dictionary of these fields to `classes`, after those inside. Fields of the same name, which are
+    present under other conditions, have the same type."""
+    members = dict.fromkeys(
+        (field["name"], python_type(field, name, classes), bool(field.get("optional") or "when" in field))
+        for field in fields)
     always = [f"    {field}: {kind}" for field, kind, may_lack in members if not may_lack]
     sometimes = [f"    {field}: {kind}" for field, kind, may_lack in members if may_lack]
     base, head = "TypedDict", [f'    """{words}"""', ""]
@@ -720,7 +737,7 @@ def python():
         classes, name = [], box["code"].strip()
         kind = name[:1].upper() + name[1:]
         python_class(kind, f"The fields of `{name}` ({box['standard']}).", box["fields"], classes)
-        found += [f"{it}\n" for it in classes]
+        found += [f"{it}\n" for it in dict.fromkeys(classes)]
         text = f"Returns the fields of `{name}`: {box['title'][:1].lower()}{box['title'][1:]} ({box['standard']})."
         found.append(f"def {name}(data: Any) -> {kind}:\n" + "\n".join(
             textwrap.wrap(f'"""{text}"""', 120, initial_indent="    ", subsequent_indent="    "))

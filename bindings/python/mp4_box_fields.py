@@ -156,8 +156,6 @@ class Chnl(_Chnl, total=False):
 
     stream_structure: int
     stream_structure_name: str
-    stream_structure: int
-    stream_structure_name: str
     format_ordering: int
     baseChannelCount: int
     data_bytes: str
@@ -654,13 +652,6 @@ class IpmaEntriesAssociations(TypedDict):
     property_index: int
 
 
-class IpmaEntriesAssociations(TypedDict):
-    """An entry of `associations`."""
-
-    essential: int
-    property_index: int
-
-
 class _IpmaEntries(TypedDict):
     item_ID: int
 
@@ -668,7 +659,6 @@ class _IpmaEntries(TypedDict):
 class IpmaEntries(_IpmaEntries, total=False):
     """An entry of `entries`."""
 
-    associations: List[IpmaEntriesAssociations]
     associations: List[IpmaEntriesAssociations]
 
 
@@ -1222,7 +1212,6 @@ class Stz2(_Stz2, total=False):
 
     entry_size: List[int]
     padding: int
-    data_bytes: str
     data_bytes: str
 
 
