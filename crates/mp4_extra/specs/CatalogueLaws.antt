@@ -10,7 +10,7 @@ use Rattle.mp4_frame.specs.MemberLaws.{IsMember, member}
 use Rattle.mp4_frame.specs.BoxType.{code_of, code_of-name_of}
 use Rattle.mp4_extra.specs.Catalogue.{Entry, type_among, Catalogue, Declarations, format_of, known_as, kinds, inside}
 
--- a box is that of its type and its fields, and a type is found by its code alone
+-- a box is that of its type and its fields, and a type is found by its code only
 pub record IsCatalogue {T E : Type 0} (c : Catalogue T E) : Type 1 where
   pub reopened : (v : E) → (c.entry_of (c.opened v).0).wrap (c.opened v).1 ≡ v
   pub is_opened : (t : T) (x : (c.entry_of t).Fields) → c.opened ((c.entry_of t).wrap x) ≡ (t, x)

@@ -35,7 +35,7 @@ entry_of (OfSound t) = put boxes.Sound (sound_types.entry_of t)
 entry_of (OfSample t) = put boxes.Sample (sample_types.entry_of t)
 entry_of (OfTrack t) = put boxes.Track (track_types.entry_of t)
 
--- the first type that is there
+-- the first type that is present
 abbrev pub first_of : {S T : Type 0} → (S → T) → Option S → Option T → Option T
 first_of f (Some s) others = Some (f s)
 first_of f None others = others

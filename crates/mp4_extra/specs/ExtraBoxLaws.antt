@@ -56,7 +56,7 @@ past : {S : Type 0} (f : S → ExtraType) (found : Option S) (others : Option Ex
     → first_of f found others ≡ others
 past {S} f found others none = ap (λ (o : Option S). first_of f o others) none
 
--- and the type that is there is found
+-- and the type that is present is found
 there : {S : Type 0} (f : S → ExtraType) (found : Option S) (others : Option ExtraType) (s : S) → found ≡ Some s
     → first_of f found others ≡ Some (f s)
 there {S} f found others s is = ap (λ (o : Option S). first_of f o others) is

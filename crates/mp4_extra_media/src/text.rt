@@ -2,7 +2,6 @@
 
 ghost use Rattle.mp4_extra_media.specs.declared.text.TheConstants.{NAMES};
 ghost use Rattle.mp4_frame.specs.declared.codes.TheConstants as codes;
-ghost use Rattle.mp4_declared.specs.OwnBox.{layout_of};
 ghost use Rattle.std.proofs.Common.{refl, lit<};
 
 use mp4_declared::declaring::*;
@@ -33,31 +32,63 @@ pub struct Text {
     pub w: i32,
 }
 
-/// The content of the box: nine signed numbers. They are pairs and no longer rows, since a row has what follows its
-/// first part twice for the prover.
-pub type TextShape = (
-    I32,
-    (I32, (I32, (I32, (I32, (I32, (I32, (I32, Last<I32>))))))),
-);
+/// A row of the matrix: three signed numbers.
+pub type TextRow = (I32, I32, Last<I32>);
 
+/// The content of the box: three rows.
+pub type TextShape = (TextRow, TextRow, Last<TextRow>);
+
+/// Nine numbers one after the other would be nested nine deep, which takes the prover too long. So the layout has a pair
+/// for each row.
 impl DeclaredBox for Text {
-    ghost use Rattle.mp4_extra_media.specs.contracts.text.Text.{struct};
+    ghost use Rattle.mp4_extra_media.specs.declared.text.Text.{Text};
 
     type Shape = TextShape;
 
     ghost CODE = { codes.TEXT };
 
-    ghost layout = { layout_of struct (λ _. tt) (λ _. refl) (lit< tt) };
+    ghost layout = { record {
+      content = λ t. ((t.a, (t.b, (t.u, tt))), ((t.c, (t.d, (t.v, tt))), ((t.x, (t.y, (t.w, tt))), tt)));
+      value = λ r. record {
+        a = r.0.0;
+        b = r.0.1.0;
+        u = r.0.1.1.0;
+        c = r.1.0.0;
+        d = r.1.0.1.0;
+        v = r.1.0.1.1.0;
+        x = r.1.1.0.0;
+        y = r.1.1.0.1.0;
+        w = r.1.1.0.1.1.0;
+      };
+      again = λ _. refl;
+      coded = lit< tt;
+    } };
 
     const CODE: u32 = codes::TEXT;
 
     fn from_content(found: <TextShape as Shape>::Value) -> Text {
-        box_of!(found => Text { a, b, u, c, d, v, x, y, w })
+        let (first, (second, (third, ()))) = found;
+        let (a, (b, (u, ()))) = first;
+        let (c, (d, (v, ()))) = second;
+        let (x, (y, (w, ()))) = third;
+        Text {
+            a,
+            b,
+            u,
+            c,
+            d,
+            v,
+            x,
+            y,
+            w,
+        }
     }
 
     fn visit<Q: ShapeVisitor<Self::Shape>>(&self, out: &mut [u8]) -> Q::Answer {
-        let parts = parts_of!(self => a, b, u, c, d, v, x, y, w);
-        Q::visit(parts, out)
+        let first = parts_of!(self => a, b, u);
+        let second = parts_of!(self => c, d, v);
+        let third = parts_of!(self => x, y, w);
+        Q::visit((first, (second, (third, ()))), out)
     }
 
     ghost valid = { refl };
@@ -65,15 +96,21 @@ impl DeclaredBox for Text {
 
 /// The names of the fields.
 const NAMES: <TextShape as NamedShape>::Names = names_of!(
-    number!("a", Fixed(16)),
-    number!("b", Fixed(16)),
-    number!("u", Fixed(30)),
-    number!("c", Fixed(16)),
-    number!("d", Fixed(16)),
-    number!("v", Fixed(30)),
-    number!("x", Fixed(16)),
-    number!("y", Fixed(16)),
-    number!("w", Fixed(30))
+    names_of!(
+        number!("a", Fixed(16)),
+        number!("b", Fixed(16)),
+        number!("u", Fixed(30))
+    ),
+    names_of!(
+        number!("c", Fixed(16)),
+        number!("d", Fixed(16)),
+        number!("v", Fixed(30))
+    ),
+    names_of!(
+        number!("x", Fixed(16)),
+        number!("y", Fixed(16)),
+        number!("w", Fixed(30))
+    )
 );
 
 impl HasFields for Text {
@@ -82,8 +119,10 @@ impl HasFields for Text {
     ghost whole = { λ view b. ⟦<TextShape as NamedShape>⟧.whole NAMES view (⟦<Text as DeclaredBox>⟧.layout.content b) };
 
     fn show<K: FieldSink>(&self, view: View, sink: &mut K) -> mp4_shown::Result<()> {
-        let parts = parts_of!(self => a, b, u, c, d, v, x, y, w);
-        TextShape::show(NAMES, view, parts, sink)
+        let first = parts_of!(self => a, b, u);
+        let second = parts_of!(self => c, d, v);
+        let third = parts_of!(self => x, y, w);
+        TextShape::show(NAMES, view, (first, (second, (third, ()))), sink)
     }
 }
 
