@@ -38,8 +38,8 @@ pub type TextRow = (I32, I32, Last<I32>);
 /// The content of the box: three rows.
 pub type TextShape = (TextRow, TextRow, Last<TextRow>);
 
-/// Nine numbers one after the other would be nested nine deep, which takes the prover too long. So the layout has a pair
-/// for each row.
+/// Nine numbers one after the other would be nested nine deep, which takes the prover too long. So the layout has a
+/// part for each row.
 impl DeclaredBox for Text {
     ghost use Rattle.mp4_extra_media.specs.declared.text.Text.{Text};
 
