@@ -51,6 +51,23 @@ def alac(data: Any) -> Alac:
     return _fields("alac", data)
 
 
+class _Alis(TypedDict):
+    version: int
+    flags: int
+
+
+class Alis(_Alis, total=False):
+    """The fields of `alis` (QuickTime File Format, "Data reference atoms")."""
+
+    data_bytes: str
+
+
+def alis(data: Any) -> Alis:
+    """Returns the fields of `alis`: a reference to media data by a Macintosh alias (QuickTime File Format, "Data
+    reference atoms")."""
+    return _fields("alis", data)
+
+
 class _AuxC(TypedDict):
     version: int
     flags: int
@@ -97,6 +114,40 @@ def av1C(data: Any) -> Av1C:
     """Returns the fields of `av1C`: the configuration of an AV1 decoder (AV1 Codec ISO Media File Format Binding,
     2.3)."""
     return _fields("av1C", data)
+
+
+class _AvcC(TypedDict):
+    configurationVersion: int
+    AVCProfileIndication: int
+    profile_compatibility: int
+    AVCLevelIndication: int
+    lengthSizeMinusOne: int
+    numOfSequenceParameterSets: int
+    sequenceParameterSetNALUnit: List[str]
+    numOfPictureParameterSets: int
+    pictureParameterSetNALUnit: List[str]
+
+
+class AvcC(_AvcC, total=False):
+    """The fields of `avcC` (ISO/IEC 14496-15, 5.3.3.1)."""
+
+    AVCProfileIndication_name: str
+    reserved_before_length: int
+    reserved_before_sets: int
+    reserved_before_chroma_format: int
+    chroma_format: int
+    reserved_before_luma: int
+    bit_depth_luma_minus8: int
+    reserved_before_chroma: int
+    bit_depth_chroma_minus8: int
+    numOfSequenceParameterSetExt: int
+    sequenceParameterSetExtNALUnit: List[str]
+    data_bytes: str
+
+
+def avcC(data: Any) -> AvcC:
+    """Returns the fields of `avcC`: the configuration of an AVC decoder (ISO/IEC 14496-15, 5.3.3.1)."""
+    return _fields("avcC", data)
 
 
 class Btrt(TypedDict):
@@ -504,6 +555,29 @@ def gmin(data: Any) -> Gmin:
     """Returns the fields of `gmin`: the media information of tracks other than video and sound (QuickTime File Format,
     "Base media info atom")."""
     return _fields("gmin", data)
+
+
+class _Hdlr(TypedDict):
+    version: int
+    flags: int
+    handler_type: str
+    name: str
+
+
+class Hdlr(_Hdlr, total=False):
+    """The fields of `hdlr` (QuickTime File Format, and ISO/IEC 14496-12, 8.4.3)."""
+
+    component_type: str
+    component_manufacturer: str
+    component_flags: int
+    component_flags_mask: int
+    name_hex: str
+
+
+def hdlr(data: Any) -> Hdlr:
+    """Returns the fields of `hdlr`: the handler of media or of metadata (QuickTime File Format, and ISO/IEC 14496-12,
+    8.4.3)."""
+    return _fields("hdlr", data)
 
 
 class Hmhd(TypedDict):
@@ -1361,6 +1435,56 @@ class Tref(TypedDict):
 def tref(data: Any) -> Tref:
     """Returns the fields of `tref`: the references of a track to other tracks (ISO/IEC 14496-12, 8.3.3)."""
     return _fields("tref", data)
+
+
+class _Urn(TypedDict):
+    version: int
+    flags: int
+    name: str
+
+
+class Urn(_Urn, total=False):
+    """The fields of `urn` (ISO/IEC 14496-12, 8.7.2)."""
+
+    name_hex: str
+    location: str
+    location_hex: str
+
+
+def urn(data: Any) -> Urn:
+    """Returns the fields of `urn`: a reference to media data by a name (ISO/IEC 14496-12, 8.7.2)."""
+    return _fields("urn ", data)
+
+
+class _VpcC(TypedDict):
+    version: int
+    flags: int
+    profile: int
+    level: int
+
+
+class VpcC(_VpcC, total=False):
+    """The fields of `vpcC` (VP Codec ISO Media File Format Binding, VP Codec Configuration Box)."""
+
+    bitDepth: int
+    colorSpace: int
+    chromaSubsampling: int
+    chromaSubsampling_name: str
+    transferFunction: int
+    videoFullRangeFlag: int
+    colourPrimaries: int
+    colourPrimaries_name: str
+    transferCharacteristics: int
+    transferCharacteristics_name: str
+    matrixCoefficients: int
+    matrixCoefficients_name: str
+    codecInitializationData: str
+
+
+def vpcC(data: Any) -> VpcC:
+    """Returns the fields of `vpcC`: the configuration of a VP decoder (VP Codec ISO Media File Format Binding, VP Codec
+    Configuration Box)."""
+    return _fields("vpcC", data)
 
 
 class _VvcC(TypedDict):

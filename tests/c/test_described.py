@@ -102,7 +102,7 @@ class Described(unittest.TestCase):
         with open(os.path.join(TOP, "docs/boxes.schema.json"), encoding="utf-8") as file:
             schemas = json.load(file)["$defs"]
         for code, schema in schemas.items():
-            found = typing.get_type_hints(getattr(typed, code))["return"]
+            found = typing.get_type_hints(getattr(typed, code.strip()))["return"]
             self.assertEqual({*typing.get_type_hints(found)}, {*schema["properties"]}, code)
             self.assertEqual(found.__required_keys__, {*schema["required"]}, code)
         shape = box(b"pasp", u32(4, 3))

@@ -422,6 +422,9 @@ def python(asked, answer):
             place = module.find(asked.data, f"moov/trak[{len(tracks)}]/{path}")
             own = place and asked.data[place.position:place.position + place.length]
             found = call(module.fields, own) if place and place.is_whole else None
+            # An hdlr that ends before its name has fields, but says nothing of its track (ISO/IEC 14496-12, 8.4.3).
+            if place and place.name == "hdlr" and place.length - place.header_length == 24:
+                found = None
             values.append(found[field] if isinstance(found, dict) else None)
         tracks.append((trak.position, *values))
     wanted = [(it.position, known(it.track_id), it.handler.decode("latin-1") if known(it.handler) else None,

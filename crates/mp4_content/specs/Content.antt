@@ -1,5 +1,5 @@
 -- The content of a box that is shown, by how the box is read, and whether it has a fault.
-use Rattle.std.specs.Prelude.{◌≡◌, ◌≢◌, ℕ, ◌+◌, ◌-◌, ◌<◌, ◌≤◌, min, nat_le, Bool, true, false, List, [], ◌∷◌, length}
+use Rattle.std.specs.Prelude.{◌≡◌, ◌≢◌, ℕ, ◌+◌, ◌-◌, ◌<◌, ◌≤◌, ◌==◌, min, Bool, true, false, List, [], ◌∷◌, length}
 use Rattle.std.specs.Prelude.{Ok, MatchBool}
 use Rattle.mp4_frame.specs.Heads.{header, header_length}
 use Rattle.mp4_frame.specs.Reading.{Reading, Refuses, ◌>>=◌}
@@ -57,8 +57,8 @@ ShowsEnd bytes found (contents.Faulty e) =
     (e ≡ errors.IoError) × (piece bytes found.position found.length ≢ 0 ∷ 0 ∷ 0 ∷ 0 ∷ [])
 ShowsEnd bytes found _ = ⊥
 
--- The content of a box that is shown, by how the box is read. A handler with at least one byte of its name, the 25th
--- byte, is shown from its bytes; the codec refuses others.
+-- The content of a box that is shown, by how the box is read. A handler with 24 bytes ends before its name, which the
+-- standard requires (ISO/IEC 14496-12, 8.4.3).
 abbrev pub ShowsAs : {A : Type 0} → (BoxType → Bool) → (BoxType → List ℕ → ℕ → ℕ → Reading A) → List ℕ → TreeBox → Kind
     → Content A → Type 0
 ShowsAs known reading bytes found kinds.Boxes content = content ≡ contents.Boxes
@@ -68,8 +68,7 @@ ShowsAs known reading bytes found kinds.Cut content = content ≡ contents.Fault
 ShowsAs known reading bytes found kinds.Small content = is_faulty content ≡ true
 ShowsAs known reading bytes found (kinds.Known name) content = ShowsKnown known reading name bytes found content
 ShowsAs known reading bytes found kinds.Handler content =
-    MatchBool (nat_le 25 (found.length - found.header_length))
-    (ShowsFront kinds.Handler 25 0xFFFFFFFFFFFFFFFF bytes found content)
+    MatchBool (found.length - found.header_length == 24) (is_faulty content ≡ true)
     (ShowsKnown known reading names.HdlrBox bytes found content)
 ShowsAs known reading bytes found kinds.Reference content =
     ShowsFront kinds.Reference 4 0xFFFFFFFFFFFFFFFF bytes found content

@@ -27,7 +27,7 @@ pub enum Kind {
     Small,
     /// Whole, as a box with this name.
     Known(BoxType),
-    /// As a handler, whose name may be counted as in QuickTime.
+    /// Whole, as a handler, which needs at least one byte for its name.
     Handler,
     /// As a data reference, whose location may not be UTF-8.
     Reference,

@@ -3,3 +3,4 @@ pub mod ShownSystem
 pub mod ShownValue
 pub mod ItemId
 pub mod ShownItems
+pub mod ShownHandler
