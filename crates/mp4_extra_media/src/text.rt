@@ -61,7 +61,7 @@ impl DeclaredBox for Text {
 }
 
 /// The names of the fields.
-const NAMES: <TextShape as NamedShape>::Names = names_of!(
+pub const NAMES: <TextShape as NamedShape>::Names = names_of!(
     number!("a", Fixed(16)),
     number!("b", Fixed(16)),
     number!("u", Fixed(30)),

@@ -1,0 +1,17 @@
+pub mod Taking
+pub mod Messages
+pub mod Decimal
+pub mod Values
+pub mod Object
+pub mod Places
+pub mod Numbers
+pub mod Runs
+pub mod Lists
+pub mod Pieces
+pub mod Shapes
+pub mod ExtraEntries
+pub mod Media
+pub mod Samples
+pub mod Segments
+pub mod Shown
+pub mod Back
