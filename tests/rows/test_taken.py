@@ -1,9 +1,11 @@
 """Makes boxes of their JSON, by the program test_probe: `mp4_from_json` takes the fields out of it.
 
-The rows of this folder that have the fields of a declared box give one text each: these fields, and the box is that of
-the row, or the last box inside it. What is made has to be written in the bytes of that box. It is made once more with
-the names in the opposite order, and once without the derived members. Texts with one thing wrong have to be refused,
-with the path of the member and the reason; these were worked out by hand from docs/FIELDS.md."""
+The rows of this folder that have the fields of a box give one text each: these fields, and the box is that of the row,
+or the last box inside it. What is made has to be written in the bytes of that box. It is made once more with the names
+in the opposite order, and once without the derived members. Texts with one thing wrong have to be refused, with the
+path of the member and the reason; these were worked out by hand from docs/FIELDS.md.
+
+The JSON that is shown of each box of each row has to give the same box back."""
 
 import copy
 import json
@@ -13,11 +15,23 @@ import unittest
 
 from tests.built import TOP, built
 from tests.readers.extra import MORE
+from tests.readers.readers import READERS
 from tests.readers.shown import records, shown, texts_of
 from tests.rows import rows
 
-# The number of the text with the bytes in which the box of an input is written.
+# The numbers of the texts with the bytes in which the box of an input is written: as a declared box, and in a list of
+# the codec's boxes.
 WRITTEN = 7
+WRITTEN_IN_A_LIST = 2
+# The numbers of the texts of a JSON text: the declared box, and the codec's.
+DECLARED = 0
+CODEC = 1
+# Rows with fields that mp4inspect reads from the bytes, and that the codec's box lacks.
+NOT_KEPT = {
+    "dref::fields_of_no_references", "dinf::fields_of_the_reference_inside", "stsd::fields_of_descriptions",
+}
+# The type of a value of metadata whose bytes the codec's `data` doesn't show beside a text or a number.
+SHORT_OF_BYTES = "DataBox"
 REASONS = {
     "json": "is not JSON",
     "object": "is not an object",
@@ -31,11 +45,13 @@ REASONS = {
     "version": "is a version that the box does not have",
     "length": "has a wrong number of bytes",
     "many": "has more entries than the field can count",
+    "count": "has a wrong number of entries",
     "zero": "has a zero byte",
     "unknown": "is not a field of this box",
     "twice": "comes twice",
     "missing": "is missing",
     "contradiction": "contradicts its field",
+    "kept": "is not kept beside the entry before it",
 }
 PASP = {"hSpacing": 4, "vSpacing": 3}
 PASP_BYTES = bytes.fromhex("00000010706173700000000400000003")
@@ -63,6 +79,45 @@ GMIN = {
     "version": 0, "flags": 0, "graphicsmode": 64, "opcolor_red": 32768, "opcolor_green": 32768, "opcolor_blue": 32768,
     "balance": 0.5,
 }
+MDHD = {
+    "version": 0, "flags": 0, "creation_time": 1, "modification_time": 2, "timescale": 1000, "duration": 3,
+    "language": "eng",
+}
+TKHD = {
+    "version": 0, "flags": 7, "creation_time": 1, "modification_time": 2, "track_ID": 3, "duration": 4, "layer": 0,
+    "alternate_group": 0, "volume": 1.0,
+    "matrix": {"a": 1.0, "b": 0.0, "u": 0.0, "c": 0.0, "d": 1.0, "v": 0.0, "x": 0.0, "y": 0.0, "w": 1.0},
+    "width": 320.0, "height": 240.0,
+}
+STSZ = {"version": 0, "flags": 0, "sample_size": 0, "sample_count": 2, "entry_size": [5, 6]}
+# Has two chunks of three samples, and then chunks of four, so sample 7 is the first of the second run.
+STSC = {"version": 0, "flags": 0, "entries": [
+    {"first_chunk": 1, "samples_per_chunk": 3, "sample_description_index": 1, "first_sample": 1},
+    {"first_chunk": 3, "samples_per_chunk": 4, "sample_description_index": 1, "first_sample": 7},
+]}
+ELST = {"version": 0, "flags": 0, "entries": [
+    {"segment_duration": 5, "media_time": -1, "media_rate_integer": 1, "media_rate_fraction": 0},
+]}
+TRUN = {
+    "version": 0, "flags": 0xA00, "sample_count": 2, "sample_size": [5, 6], "sample_composition_time_offset": [0, 1],
+}
+EMSG = {
+    "version": 0, "flags": 0, "scheme_id_uri": "urn:a", "value": "1", "timescale": 1000, "presentation_time_delta": 2,
+    "event_duration": 3, "id": 4, "message_data": "00ff",
+}
+AVCC = {
+    "configurationVersion": 1, "AVCProfileIndication": 66, "profile_compatibility": 0, "AVCLevelIndication": 30,
+    "lengthSizeMinusOne": 3, "sequenceParameterSetNALUnit": ["6742"], "pictureParameterSetNALUnit": ["68ce"],
+}
+TX3G = {
+    "data_reference_index": 1, "displayFlags": 0, "horizontal-justification": 1, "vertical-justification": -1,
+    "background-color-rgba": {"red": 0, "green": 0, "blue": 0, "alpha": 255}, "default-text-box": [0, 0, 60, 400],
+    "default-style": "000000000001001ffffffff0",
+}
+ESDS = {"version": 0, "flags": 0, "ES": {"ES_ID": 1, "decConfigDescr": {
+    "objectTypeIndication": 64, "streamType": 5, "upStream": 0, "bufferSizeDB": 0, "maxBitrate": 1, "avgBitrate": 1,
+    "decSpecificInfo": {"audioObjectType": 2, "samplingFrequencyIndex": 3, "channelConfiguration": 2},
+}}}
 
 
 def without(of_box, *names):
@@ -81,12 +136,33 @@ def inside(of_box, name, index, **changes):
     return found
 
 
+def inside_of(of_box, *names, **changes):
+    """Returns `of_box` with changes in the object that the names lead to. A change to None takes a member away."""
+    found = copy.deepcopy(of_box)
+    group = found
+    for name in names:
+        group = group[name]
+    for key, value in changes.items():
+        if value is None:
+            del group[key]
+        else:
+            group[key] = value
+    return found
+
+
 def ran(cases):
-    """Returns the text that the program prints for each case: a code, and a JSON text."""
+    """Returns the two texts that the program prints for each case: a code, and a JSON text."""
     inputs = [(int.from_bytes(code, "big"), text.encode("utf-8")) for code, text in cases]
     words = [built("test_probe"), "json"]
     out = subprocess.run(words, input=records(inputs), stdout=subprocess.PIPE, check=True).stdout
-    return [text for [text] in texts_of(out, len(inputs), 1)]
+    return texts_of(out, len(inputs), 2)
+
+
+def backs(inputs):
+    """Returns the lines that the program prints for each input, a position and bytes."""
+    words = [built("test_probe"), "back"]
+    out = subprocess.run(words, input=records(inputs), stdout=subprocess.PIPE, check=True).stdout
+    return [text.splitlines() for [text] in texts_of(out, len(inputs), 1)]
 
 
 def last_box(buffer):
@@ -136,10 +212,18 @@ def refusal(path, reason):
     return f"{path or 'the text'} {REASONS[reason]}"
 
 
+def in_three_forms(fields, derived):
+    """Returns the JSON of `fields` as it is shown, with the names in the opposite order, and without the members
+    `derived`."""
+    forms = (fields, reversed_names(fields), without_derived(fields, derived))
+    return [json.dumps(value, ensure_ascii=False) for value in forms]
+
+
 class Taken(unittest.TestCase):
-    def compare(self, cases):
-        """Compares what the program prints for cases, each with a code, a JSON text and the expected text."""
-        texts = ran([case[:2] for case in cases])
+    def compare(self, cases, kind=DECLARED):
+        """Compares what the program prints for cases, each with a code, a JSON text and the expected text. `kind` is
+        `DECLARED` or `CODEC`."""
+        texts = [texts[kind] for texts in ran([case[:2] for case in cases])]
         wrong = [f"{code} {text}\n  expected: {expected}\n  found:    {found}"
                  for (code, text, expected), found in zip(cases, texts) if found != expected]
         if wrong:
@@ -159,14 +243,37 @@ class Taken(unittest.TestCase):
         cases = []
         for (name, box, fields), expected in zip(found, written):
             derived = derived_of(box[4:8].decode("latin-1"))
-            for value in (fields, reversed_names(fields), without_derived(fields, derived)):
-                cases.append((box[4:8], json.dumps(value, ensure_ascii=False), expected))
+            cases.extend((box[4:8], text, expected) for text in in_three_forms(fields, derived))
         self.compare(cases)
 
-    def refused(self, code, table):
+    def test_rows_of_the_codec(self):
+        """The fields of the rows give the bytes of the codec's boxes too."""
+        found = [row for name, row in rows()
+                 if row.fields is not None and name not in NOT_KEPT and row.buffer[4:8].decode("latin-1") in READERS
+                 and row.buffer[4:8].decode("latin-1") not in MORE]
+        self.assertGreater(len(found), 45)
+        texts = shown(built("test_probe"), [(row.at, row.buffer) for row in found])
+        cases = []
+        for row, expected in zip(found, texts):
+            derived = derived_of(row.buffer[4:8].decode("latin-1"))
+            forms = in_three_forms(row.fields, derived)
+            cases.extend((row.buffer[4:8], text, expected[WRITTEN_IN_A_LIST]) for text in forms)
+        self.compare(cases, CODEC)
+
+    def test_back(self):
+        """The JSON that is shown of each box gives the box back."""
+        found = list(rows())
+        lines = backs([(row.at, row.buffer) for _, row in found])
+        self.assertGreater(sum(len(it) for it in lines), 3000)
+        wrong = [f"{name}: {line[:2000]}" for (name, _), it in zip(found, lines) for line in it
+                 if line != "same" and SHORT_OF_BYTES not in line]
+        if wrong:
+            self.fail("\n".join([f"{len(wrong)} differences", *wrong[:40]]))
+
+    def refused(self, code, table, kind=DECLARED):
         """Expects that each object or text of `table` is refused, with a path and a reason."""
         self.compare([(code, it if isinstance(it, str) else json.dumps(it), refusal(path, reason))
-                      for it, path, reason in table])
+                      for it, path, reason in table], kind)
 
     def test_whole_text(self):
         self.refused(b"pasp", [
@@ -271,6 +378,108 @@ class Taken(unittest.TestCase):
             ({**GMIN, "balance": 10**40}, "balance", "number"),
         ])
 
+    def test_headers_of_the_codec(self):
+        """A version, a time, a language and a transformation that the box can't have."""
+        self.refused(b"mdhd", [
+            ({**MDHD, "version": 2}, "version", "version"),
+            ({**MDHD, "duration": 2**32}, "duration", "range"),
+            ({**MDHD, "language": "en"}, "language", "range"),
+            ({**MDHD, "language": "English"}, "language", "range"),
+            ({**MDHD, "language": "ENG"}, "language", "range"),
+            ({**MDHD, "language": 0x15C7}, "language", "range"),
+            ({**MDHD, "language": None}, "language", "whole"),
+            ({**MDHD, "language": "eng", "language_name": "Macintosh"}, "language_name", "unknown"),
+            ({**MDHD, "language": 5, "language_name": "unspecified"}, "language_name", "contradiction"),
+        ], CODEC)
+        self.refused(b"tkhd", [
+            (inside_of(TKHD, "matrix", a=40000), "matrix.a", "range"),
+            (inside_of(TKHD, "matrix", w=2), "matrix.w", "range"),
+            (inside_of(TKHD, "matrix", t=0), "matrix.t", "unknown"),
+            (inside_of(TKHD, "matrix", d=None), "matrix.d", "missing"),
+            ({**TKHD, "matrix": [1]}, "matrix", "object"),
+            ({**TKHD, "width": 70000}, "width", "range"),
+            ({**TKHD, "layer": 40000}, "layer", "range"),
+        ], CODEC)
+
+    def test_tables_of_the_codec(self):
+        """Lists whose lengths and first samples have to agree with other fields."""
+        self.refused(b"stsz", [
+            ({**STSZ, "sample_count": 3}, "entry_size", "count"),
+            ({**STSZ, "sample_size": 4}, "entry_size", "count"),
+            ({**STSZ, "entry_size": [1, 2**32]}, "entry_size[1]", "range"),
+        ], CODEC)
+        self.refused(b"stsc", [
+            (inside(STSC, "entries", 1, first_sample=8), "entries[1].first_sample", "contradiction"),
+            (inside(STSC, "entries", 0, first_sample=0), "entries[0].first_sample", "contradiction"),
+            (inside(STSC, "entries", 1, first_chunk=0, first_sample=None), "entries", "range"),
+            (inside(STSC, "entries", 1, first_chunk=2**31, first_sample=None), "entries", "range"),
+            (inside(STSC, "entries", 1, samples_per_chunk=None), "entries[1].samples_per_chunk", "missing"),
+        ], CODEC)
+        self.refused(b"elst", [
+            (inside(ELST, "entries", 0, segment_duration=2**32), "entries[0].segment_duration", "range"),
+            (inside(ELST, "entries", 0, media_time=2**31), "entries[0].media_time", "range"),
+            (inside({**ELST, "version": 2}, "entries", 0, media_time=-1), "entries[0].media_time", "range"),
+            (inside({**ELST, "version": 1}, "entries", 0, media_time=2**63), "entries[0].media_time", "whole"),
+        ], CODEC)
+
+    def test_fragments_of_the_codec(self):
+        """Fields that flags turn on or off."""
+        self.refused(b"tfhd", [
+            ({"version": 0, "flags": 1, "track_ID": 1}, "base_data_offset", "missing"),
+            ({"version": 0, "flags": 0, "track_ID": 1, "base_data_offset": 5}, "base_data_offset", "unknown"),
+        ], CODEC)
+        self.refused(b"trun", [
+            ({**TRUN, "sample_size": [1]}, "sample_size", "count"),
+            ({**TRUN, "sample_duration": [1, 2]}, "sample_duration", "unknown"),
+            (without(TRUN, "sample_size"), "sample_size", "missing"),
+            ({**TRUN, "sample_composition_time_offset": [0, -1]}, "sample_composition_time_offset[1]", "whole"),
+            ({**TRUN, "version": 1, "sample_composition_time_offset": [0, 2**31]},
+             "sample_composition_time_offset[1]", "range"),
+        ], CODEC)
+
+    def test_texts_of_the_codec(self):
+        self.refused(b"emsg", [
+            ({**EMSG, "value": "a\0b"}, "value", "zero"),
+            ({**EMSG, "presentation_time": 1}, "presentation_time", "unknown"),
+            ({**EMSG, "version": 1}, "presentation_time", "missing"),
+            ({**EMSG, "version": 2}, "version", "version"),
+        ], CODEC)
+        self.refused(b"data", [
+            ({"data_type": 2, "data_bytes": "00"}, "data_type", "range"),
+            ({"data_type": 21, "number": 2**31}, "number", "range"),
+            ({"data_type": 1, "number": 5}, "text", "missing"),
+            ({"data_type": 1, "text": "a", "data_bytes": "62"}, "text", "contradiction"),
+        ], CODEC)
+
+    def test_entries_of_the_codec(self):
+        self.refused(b"avcC", [
+            ({**AVCC, "lengthSizeMinusOne": 4}, "lengthSizeMinusOne", "range"),
+            ({**AVCC, "sequenceParameterSetNALUnit": ["00"] * 32}, "sequenceParameterSetNALUnit", "many"),
+            ({**AVCC, "pictureParameterSetNALUnit": ["00"] * 256}, "pictureParameterSetNALUnit", "many"),
+            ({**AVCC, "pictureParameterSetNALUnit": ["00" * 65536]}, "pictureParameterSetNALUnit[0]", "length"),
+        ], CODEC)
+        self.refused(b"tx3g", [
+            ({**TX3G, "default-text-box": [1, 2, 3]}, "default-text-box", "count"),
+            ({**TX3G, "default-text-box": [1, 2, 3, 2**15]}, "default-text-box[3]", "range"),
+            ({**TX3G, "default-style": "00"}, "default-style", "length"),
+            (inside_of(TX3G, "background-color-rgba", red=256), "background-color-rgba.red", "range"),
+        ], CODEC)
+        entry = {"data_reference_index": 1, "channelcount": 2, "samplesize": 16, "samplerate": 48000.0}
+        self.refused(b"stsd", [
+            ({"version": 0, "flags": 0, "mp4a": entry, "tx3g": TX3G}, "tx3g", "kept"),
+            ({"version": 0, "flags": 0, "mp4a": {**entry, "version": 1}}, "mp4a.version", "unknown"),
+        ], CODEC)
+        self.refused(b"esds", [
+            (inside_of(ESDS, "ES", "decConfigDescr", upStream=1), "ES.decConfigDescr.upStream", "range"),
+            (inside_of(ESDS, "ES", "decConfigDescr", streamType=64), "ES.decConfigDescr.streamType", "range"),
+            (inside_of(ESDS, "ES", "decConfigDescr", "decSpecificInfo", audioObjectType=31),
+             "ES.decConfigDescr.decSpecificInfo.audioObjectType", "range"),
+            (inside_of(ESDS, "ES", "decConfigDescr", "decSpecificInfo", samplingFrequencyIndex=15),
+             "ES.decConfigDescr.decSpecificInfo.samplingFrequency", "missing"),
+            (inside_of(ESDS, "ES", "decConfigDescr", "decSpecificInfo", samplingFrequency=5),
+             "ES.decConfigDescr.decSpecificInfo.samplingFrequency", "unknown"),
+        ], CODEC)
+
     def test_made(self):
         """Texts that no box is shown as: derived members are left out, numbers are rounded, bytes stand alone."""
         def made(code, content):
@@ -290,6 +499,7 @@ class Taken(unittest.TestCase):
             (b"styp", json.dumps({**STYP, "major_brand": "\xa9nam"}),
              made(b"styp", b"\xa9nam" + bytes(4) + b"msdhmsix")),
         ])
+
 
 if __name__ == "__main__":
     unittest.main()

@@ -13,5 +13,14 @@ pub mod ExtraEntries
 pub mod Media
 pub mod Samples
 pub mod Segments
+pub mod Extra
+pub mod CodecShapes
+pub mod CodecFlat
+pub mod CodecTables
+pub mod CodecFragments
+pub mod CodecText
+pub mod CodecEntries
+pub mod CodecSound
+pub mod Codec
 pub mod Shown
 pub mod Back

@@ -15,6 +15,7 @@ use Rattle.mp4_from_json.specs.Numbers.{number_taken, numbers_taken}
 use Rattle.mp4_from_json.specs.Object.{take_one, members_in, all_of}
 use Rattle.mp4_from_json.specs.Runs.{each_taken, items_in, small_numbers_in}
 use Rattle.mp4_from_json.specs.Taking.{Taking, expect, within, ◌>>=◌}
+use Rattle.mp4_from_json.specs.declared.error.Reason.{Reason}
 use Rattle.mp4_from_json.specs.declared.error.Reason.TheVariants as reasons
 
 -- what is taken out of an object, and what is left of that
@@ -65,10 +66,19 @@ layout_taken l fs ms = bits_taken (layout_in l).value fs (widths_of l.fields) ms
 abbrev pub made_of : {A B : Type 0} → (A → B) → Takes A → Takes B
 made_of make taken ms = map_taken make (taken ms)
 
+-- what is made of what is taken, if that passes a check
+abbrev pub made_if : {A B : Type 0} → (A → Bool) → List ℕ → Reason → (A → B) → Takes A → Takes B
+made_if passes path reason make taken ms =
+    taken ms >>= λ p. expect (passes p.0) path reason >>= λ _. Ok (make p.0, p.1)
+
 -- what a text is, without a path
 abbrev pub document_taken : {A : Type 0} → Takes A → Option Json → Taking A
 document_taken taken (Some j) = members_in [] j >>= λ ms. all_of taken ms
 document_taken taken None = Err ([], reasons.NotJson)
+
+-- the box that a text is, as one of several types
+abbrev pub document_as : {A B : Type 0} → (A → B) → Takes A → Option Json → Taking (Option B)
+document_as wrap taken j = document_taken taken j >>= λ b. Ok (Some (wrap b))
 
 -- an entry of bit fields
 abbrev pub row_taken : {X : Type 0} → ((ℕ → ℕ) → X) → ListAs → List NumberName → List ℕ → Json → Taking X

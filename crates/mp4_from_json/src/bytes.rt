@@ -55,7 +55,7 @@ impl<C: Count> TakeShape for Bytes<C> {
 }
 
 /// Returns whether none of `bytes` is 0.
-fn has_no_zero(bytes: &[u8]) -> bool
+pub(crate) fn has_no_zero(bytes: &[u8]) -> bool
     ensures { result ≡ has_no_zero bytes.now }
 {
     !bytes.contains(&0)

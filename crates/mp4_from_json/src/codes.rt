@@ -41,7 +41,11 @@ impl TakeShape for Code {
 }
 
 /// Takes the array called `name` out.
-fn take_array<'a>(alloc: Global, name: &str, object: &mut Object<'a>) -> Result<Vec<Value<'a>>>
+pub(crate) fn take_array<'a>(
+    alloc: Global,
+    name: &str,
+    object: &mut Object<'a>,
+) -> Result<Vec<Value<'a>>>
     ensures { TakesAs (λ items. (items_view items.items, left object.new)) result
         (array_taken name.now (left object.old)) }
 {
@@ -94,6 +98,18 @@ impl TakeItem<u32> for WordItem {
 
     fn take(&self, alloc: Global, value: Value<'_>) -> Result<u32> {
         Ok(small_in(alloc, "", 32, &value)? as u32)
+    }
+}
+
+/// An entry that is a number of 64 bits.
+#[derive(Drop)]
+pub(crate) struct WideItem;
+
+impl TakeItem<u64> for WideItem {
+    ghost taken = { λ by j. small_in 64 [] j };
+
+    fn take(&self, alloc: Global, value: Value<'_>) -> Result<u64> {
+        small_in(alloc, "", 64, &value)
     }
 }
 

@@ -16,8 +16,8 @@ use std::alloc::Global;
 
 /// An entry that is an `X` in a context.
 #[derive(Drop)]
-struct EntryItem {
-    context: Context,
+pub(crate) struct EntryItem {
+    pub(crate) context: Context,
 }
 
 impl<X: TakeEntry> TakeItem<X> for EntryItem {

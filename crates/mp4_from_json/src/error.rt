@@ -35,6 +35,8 @@ pub enum Reason {
     WrongLength,
     /// The array has more entries than the field can count.
     TooMany,
+    /// The array has another number of entries than other fields say.
+    WrongCount,
     /// The text has a zero byte, which would end it.
     ZeroByte,
     /// The box has no such field, or not with this version, these flags and these other fields.
@@ -45,6 +47,8 @@ pub enum Reason {
     Missing,
     /// The derived member isn't what follows from its field.
     Contradiction,
+    /// The box keeps only one of the members that are here.
+    NotKept,
 }
 
 impl fmt::Display for Reason {
@@ -64,11 +68,13 @@ impl fmt::Display for Reason {
             Reason::NoVersion => "is a version that the box does not have",
             Reason::WrongLength => "has a wrong number of bytes",
             Reason::TooMany => "has more entries than the field can count",
+            Reason::WrongCount => "has a wrong number of entries",
             Reason::ZeroByte => "has a zero byte",
             Reason::Unknown => "is not a field of this box",
             Reason::Twice => "comes twice",
             Reason::Missing => "is missing",
             Reason::Contradiction => "contradicts its field",
+            Reason::NotKept => "is not kept beside the entry before it",
         };
         f.write_str(text)
     }

@@ -1,6 +1,6 @@
 //! Numbers that are taken out of an object.
 
-ghost use Rattle.std.specs.Prelude.{◌≡◌, ℕ, ◌*◌, ◌<◌, ◌^◌, ◌++◌, nat_lt, Ok, IfOk, map, option_map, slice_index};
+ghost use Rattle.std.specs.Prelude.{◌≡◌, ℕ, ◌*◌, ◌<◌, ◌≤◌, ◌^◌, ◌++◌, nat_lt, Ok, IfOk, map, option_map, slice_index};
 ghost use Rattle.std.specs.Prelude.{string_bytes};
 ghost use Rattle.json.specs.Value.{value_view};
 ghost use Rattle.mp4_shown.specs.Event.{seen_meaning};
@@ -221,8 +221,9 @@ pub fn take_number(
     bits: u32,
     object: &mut Object<'_>,
 ) -> Result<u64>
-    ensures { TakesAs (λ n. (n, left object.new)) result
+    ensures value { TakesAs (λ n. (n, left object.new)) result
         (number_taken (seen_number name.entry) bits (left object.old)) }
+    ensures fits { IfOk result (λ n. n < 2 ^ bits) }
 {
     let (name, number_as, meanings) = name;
     let value = object.take_out(alloc, name)?;
@@ -260,8 +261,10 @@ pub fn take_signed(
     most: i64,
     object: &mut Object<'_>,
 ) -> Result<i64>
-    ensures { TakesAs (λ z. (z, left object.new)) result
+    ensures value { TakesAs (λ z. (z, left object.new)) result
         (signed_taken (seen_number name.entry) least most (left object.old)) }
+    ensures least { IfOk result (λ z. least ≤ z) }
+    ensures most { IfOk result (λ z. z ≤ most) }
 {
     let (name, number_as, _) = name;
     let value = object.take_one(alloc, name)?;

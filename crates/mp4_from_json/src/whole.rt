@@ -4,7 +4,7 @@ ghost use Rattle.std.specs.Prelude.{◌≡◌};
 ghost use Rattle.json.specs.Json.{document};
 ghost use Rattle.json.specs.Value.{value_view};
 ghost use Rattle.mp4_from_json.specs.Object.{all_of, left, object_taken};
-ghost use Rattle.mp4_from_json.specs.Shapes.{document_taken};
+ghost use Rattle.mp4_from_json.specs.Shapes.{document_as, document_taken};
 ghost use Rattle.mp4_from_json.specs.Taking.{TakesAs};
 
 use crate::error::{Error, Reason, Result, refuse};
@@ -12,6 +12,7 @@ use crate::object::{Object, end_object, object_in};
 use crate::take::{TakeFields, TakeShape};
 use json::{Scratch, Value};
 use mp4_declared::Context;
+use mp4_frame::Holds;
 use std::alloc::Global;
 
 /// Takes an `S` out of `object`, of which nothing may be left.
@@ -62,4 +63,12 @@ pub fn read_box<B: TakeFields>(alloc: Global, text: &str) -> Result<B>
         Err(json::Error::OutOfMemory) => Err(Error::OutOfMemory),
         Err(_) => Err(refuse(alloc, "", Reason::NotJson)),
     }
+}
+
+/// Returns the box of the type `T` whose JSON is `text`, as an `E`.
+pub(crate) fn read_as<T: TakeFields, E: Holds<T>>(alloc: Global, text: &str) -> Result<Option<E>>
+    ensures { TakesAs (λ b. b) result (document_as E.wrapped T.taken (document text.now)) }
+{
+    let value: T = read_box(alloc, text)?;
+    Ok(Some(E::wrap(value)))
 }

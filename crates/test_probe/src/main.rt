@@ -28,7 +28,9 @@
 //!
 //! With the argument `movies` the bytes of each record of the input are a file, and it gives one record of the output:
 //! the text of its movie (`movie.rt`). With the argument `json` the position is the code of a box, and the bytes are its
-//! JSON. The record of the output has the bytes that are written of the box, or why the JSON is refused (`taken.rt`).
+//! JSON. The two records of the output have the bytes that are written of the declared box and of the codec's, or why
+//! the JSON is refused (`taken.rt`). With the argument `back` the record of the output has a line for each box in the
+//! bytes: `same`, if the JSON that is shown of the box gives the box back.
 #![tactic(auto)]
 
 mod declared;
@@ -38,7 +40,7 @@ mod taken;
 
 use crate::declared::{show_declared, show_trees};
 use crate::movie::show_movie;
-use crate::taken::show_taken;
+use crate::taken::{show_back, show_taken};
 use mp4_box_tree::AllBoxes;
 use mp4_stream::{
     AnyBox, BoxHeader, BoxType, ByteCursor, EsdsBox, KeptBox, StreamBox, list_boxes, read_boxes_as,
@@ -200,6 +202,8 @@ enum Shown {
     Movie,
     /// The box that is made of its JSON.
     Json,
+    /// Whether the JSON that is shown of a box gives it back.
+    Back,
 }
 
 /// Returns what is shown of each record, by the program's argument.
@@ -211,6 +215,8 @@ fn shown_by(rt: &HostRuntime) -> io::Result<Shown> {
         Some(word) => {
             if word.as_str() == "json" {
                 Shown::Json
+            } else if word.as_str() == "back" {
+                Shown::Back
             } else {
                 Shown::Movie
             }
@@ -232,6 +238,7 @@ fn main(rt: HostRuntime) -> io::Result<()> {
             Shown::Boxes => show_all(rt.alloc(), position, bytes, &mut out)?,
             Shown::Movie => show_movie(rt.alloc(), bytes, &mut out)?,
             Shown::Json => show_taken(rt.alloc(), position, bytes, &mut out)?,
+            Shown::Back => show_back(rt.alloc(), position, bytes, &mut out)?,
         }
         rest = after;
     }

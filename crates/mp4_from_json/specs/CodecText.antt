@@ -1,0 +1,143 @@
+-- Boxes of strings, data and references, which are made of the parts that are taken.
+use Rattle.std.specs.Prelude.{ℕ, ℤ, pos, negsuc, ◌-◌, ◌^◌, ◌==◌, ◌&&◌, int_le, List, codes, length}
+use Rattle.std.specs.Prelude.{Option, Some, None, if◌then◌else◌, Ok}
+use Rattle.std.specs.Int.{w32, cast_unsigned}
+use Rattle.json.specs.Json.{Json, Members}
+use Rattle.mp4_frame.specs.Bytes.{be_bytes}
+use Rattle.mp4_frame.specs.declared.four_cc.FourCC.{FourCC}
+use Rattle.mp4_media.specs.declared.data_type.DataType.{DataType}
+use Rattle.mp4_media.specs.declared.data_type.DataType.TheVariants as types
+use Rattle.mp4_text.specs.declared.data.DataBox.{DataBox}
+use Rattle.mp4_text.specs.declared.dinf.DinfBox.{DinfBox}
+use Rattle.mp4_text.specs.declared.dref.DrefBox.{DrefBox}
+use Rattle.mp4_text.specs.declared.emsg.EmsgBox.{EmsgBox}
+use Rattle.mp4_text.specs.declared.ftyp.FtypBox.{FtypBox}
+use Rattle.mp4_text.specs.declared.hdlr.HdlrBox.{HdlrBox}
+use Rattle.mp4_text.specs.declared.url.UrlBox.{UrlBox}
+use Rattle.mp4_show.specs.Metadata.{integer}
+use Rattle.mp4_show.specs.declared.fields.metadata.TheConstants.{DATA}
+use Rattle.mp4_from_json.specs.Numbers.{at_path, number_taken}
+use Rattle.mp4_from_json.specs.Object.{take_out, take_one, has}
+use Rattle.mp4_from_json.specs.Runs.{text_taken}
+use Rattle.mp4_from_json.specs.Shapes.{Takes}
+use Rattle.mp4_from_json.specs.Taking.{Taking, refused, expect, ◌>>=◌}
+use Rattle.mp4_from_json.specs.Values.{hex_in, or_else, signed_in}
+use Rattle.mp4_from_json.specs.declared.error.Reason.TheVariants as reasons
+
+-- ---- ftyp
+
+abbrev pub FtypParts : Type 0
+FtypParts = FourCC × (ℕ × (List FourCC × Unit {0}))
+
+abbrev pub make_ftyp : FtypParts → FtypBox
+make_ftyp v = record {
+  major_brand = v.0;
+  minor_version = v.1.0;
+  compatible_brands = v.1.1.0;
+}
+
+-- ---- hdlr
+
+abbrev pub HdlrParts : Type 0
+HdlrParts = ℕ × (ℕ × (FourCC × (List ℕ × Unit {0})))
+
+abbrev pub make_hdlr : HdlrParts → HdlrBox
+make_hdlr v = record {
+  version = v.0;
+  flags = v.1.0;
+  handler_type = v.1.1.0;
+  name = v.1.1.1.0;
+}
+
+-- ---- url
+
+abbrev pub UrlParts : Type 0
+UrlParts = ℕ × (ℕ × (List ℕ × Unit {0}))
+
+abbrev pub make_url : UrlParts → UrlBox
+make_url v = record {
+  version = v.0;
+  flags = v.1.0;
+  location = v.1.1.0;
+}
+
+-- ---- dref
+
+abbrev pub DrefParts : Type 0
+DrefParts = ℕ × (ℕ × (Option UrlBox × Unit {0}))
+
+abbrev pub make_dref : DrefParts → DrefBox
+make_dref v = record {
+  version = v.0;
+  flags = v.1.0;
+  url = v.1.1.0;
+}
+
+-- ---- emsg
+
+abbrev pub EmsgParts : Type 0
+EmsgParts = ℕ × (ℕ × (List ℕ × (List ℕ × (ℕ × (Option ℕ × (Option ℕ × (ℕ × (ℕ × (List ℕ × Unit {0})))))))))
+
+abbrev pub make_emsg : EmsgParts → EmsgBox
+make_emsg v = record {
+  version = v.0;
+  flags = v.1.0;
+  scheme_id_uri = v.1.1.0;
+  value = v.1.1.1.0;
+  timescale = v.1.1.1.1.0;
+  presentation_time = v.1.1.1.1.1.0;
+  presentation_time_delta = v.1.1.1.1.1.1.0;
+  event_duration = v.1.1.1.1.1.1.1.0;
+  id = v.1.1.1.1.1.1.1.1.0;
+  message_data = v.1.1.1.1.1.1.1.1.1.0;
+}
+
+-- ---- dinf
+
+abbrev pub make_dinf : DrefBox → DinfBox
+make_dinf dref = record { dref = dref }
+
+-- ---- data: the type says how the value is read
+
+abbrev pub type_or_refused : ℕ → Taking DataType
+type_or_refused n =
+    if n == 0 then Ok types.Binary else if n == 1 then Ok types.Text else if n == 13 then Ok types.Image
+    else if n == 21 then Ok types.TempoCpil else refused DATA.0.0.now reasons.OutOfRange
+
+-- bytes by their hexadecimal digits
+abbrev pub digits_taken : List ℕ → Takes (List ℕ)
+digits_taken name ms = take_one name ms >>= λ p. at_path name (hex_in p.0) >>= λ bytes. Ok (bytes, p.1)
+
+-- the least of 1, 2 and 4 bytes that have room for a number
+abbrev pub integer_width : ℤ → ℕ
+integer_width z =
+    if int_le (negsuc (2 ^ 7 - 1)) z && int_le z (pos (2 ^ 7 - 1)) then 1 else
+    if int_le (negsuc (2 ^ 15 - 1)) z && int_le z (pos (2 ^ 15 - 1)) then 2 else 4
+
+abbrev pub integer_bytes : ℤ → List ℕ
+integer_bytes z = be_bytes (integer_width z) (cast_unsigned w32 z)
+
+abbrev pub integer_in : Json → Taking ℤ
+integer_in j =
+    at_path (codes "number") (or_else reasons.NotWhole Ok (signed_in j)) >>= λ z.
+    expect (int_le (negsuc (2 ^ 31 - 1)) z && int_le z (pos (2 ^ 31 - 1))) (codes "number") reasons.OutOfRange >>= λ _.
+    Ok z
+
+abbrev pub integer_taken : Takes (List ℕ)
+integer_taken ms =
+    take_one (codes "number") ms >>= λ p. integer_in p.0 >>= λ z. Ok (integer_bytes z, p.1)
+
+-- a text, a number, or bytes; the bytes of a text may stand beside it, and those of a number instead of it
+abbrev pub value_taken : DataType → Takes (List ℕ)
+value_taken types.Binary ms = digits_taken (codes "data_bytes") ms
+value_taken types.Text ms = text_taken (codes "text") false (codes "data_bytes") ms
+value_taken types.Image ms = digits_taken (codes "data_bytes") ms
+value_taken types.TempoCpil ms =
+    if has (codes "data_bytes") ms then digits_taken (codes "data_bytes") ms else integer_taken ms
+
+abbrev make_data : DataType → List ℕ → DataBox
+make_data t bytes = record { data_bytes = bytes; data_type = t }
+
+abbrev pub data_box_taken : Takes DataBox
+data_box_taken ms =
+    number_taken DATA.0 32 ms >>= λ p. type_or_refused p.0 >>= λ t. value_taken t p.1 >>= λ q. Ok (make_data t q.0, q.1)
