@@ -480,6 +480,18 @@ class Taken(unittest.TestCase):
              "ES.decConfigDescr.decSpecificInfo.samplingFrequency", "unknown"),
         ], CODEC)
 
+    def test_numbers_of_metadata(self):
+        """A number has the least of 1, 2 and 4 bytes that have room for it, unless its bytes are there."""
+        def made(content):
+            whole = (16 + len(content)).to_bytes(4, "big") + b"data" + bytes([0, 0, 0, 21, 0, 0, 0, 0]) + content
+            return f"Ok({len(whole)}) {list(whole)}"
+
+        cases = [(127, "7f"), (-128, "80"), (128, "0080"), (-129, "ff7f"), (32767, "7fff"), (-32768, "8000"),
+                 (32768, "00008000"), (-(2**31), "80000000")]
+        self.compare([(b"data", json.dumps({"data_type": 21, "number": number}), made(bytes.fromhex(content)))
+                      for number, content in cases], CODEC)
+        self.compare([(b"data", json.dumps({"data_type": 21, "data_bytes": "000102"}), made(b"\0\1\2"))], CODEC)
+
     def test_made(self):
         """Texts that no box is shown as: derived members are left out, numbers are rounded, bytes stand alone."""
         def made(code, content):

@@ -1,5 +1,5 @@
 -- The sample entry of MPEG-4 audio and sample descriptions, which are made of the parts that are taken.
-use Rattle.std.specs.Prelude.{ℕ, ◌==◌, ◌&&◌, ◌||◌, nat_le, nat_lt, Bool, true, false, List, [], ◌∷◌}
+use Rattle.std.specs.Prelude.{ℕ, ◌==◌, ◌&&◌, ◌||◌, nat_le, nat_lt, not, Bool, true, false, List}
 use Rattle.std.specs.Prelude.{Option, is_some, if◌then◌else◌, Ok}
 use Rattle.mp4_entries.specs.declared.avc1.Avc1Box.{Avc1Box}
 use Rattle.mp4_entries.specs.declared.hev1.Hev1Box.{Hev1Box}
@@ -14,7 +14,7 @@ use Rattle.mp4_sound.specs.declared.stsd.StsdBox.{StsdBox}
 use Rattle.mp4_show.specs.declared.fields.sound.TheConstants.{SPECIFIC, STSD}
 use Rattle.mp4_from_json.specs.Numbers.{number_taken}
 use Rattle.mp4_from_json.specs.Shapes.{Takes, taken_if}
-use Rattle.mp4_from_json.specs.Taking.{Taking, refused, expect, ◌>>=◌}
+use Rattle.mp4_from_json.specs.Taking.{Taking, expect, ◌>>=◌}
 use Rattle.mp4_from_json.specs.declared.error.Reason.TheVariants.{NotKept, OutOfRange}
 
 -- ---- the descriptors of esds
@@ -111,18 +111,21 @@ make_stsd v = record {
   tx3g = v.1.1.1.1.1.1.0;
 }
 
--- at most one of some members is there
-abbrev pub one_kept : Bool → List (List ℕ × Bool) → Taking (Unit {0})
-one_kept has_one [] = Ok tt
-one_kept has_one (m ∷ ms) =
-    if m.1 then (if has_one then refused m.0 NotKept else one_kept true ms) else one_kept has_one ms
+-- an entry is there after those before it; there may not be two
+abbrev pub also_kept : Bool → List ℕ → Bool → Taking Bool
+also_kept has_one name is_there = expect (not (has_one && is_there)) name NotKept >>= λ _. Ok (has_one || is_there)
 
--- the entries by their names, and whether they are there
-abbrev pub entries_of : StsdParts → List (List ℕ × Bool)
-entries_of v =
-    (STSD.1.1.0.0.now, is_some v.1.1.0) ∷ (STSD.1.1.1.0.0.now, is_some v.1.1.1.0)
-    ∷ (STSD.1.1.1.1.0.0.now, is_some v.1.1.1.1.0) ∷ (STSD.1.1.1.1.1.0.0.now, is_some v.1.1.1.1.1.0)
-    ∷ (STSD.1.1.1.1.1.1.0.0.now, is_some v.1.1.1.1.1.1.0) ∷ []
+-- at most one of the five entries is there
+abbrev pub one_kept : Bool → Bool → Bool → Bool → Bool → Taking (Unit {0})
+one_kept avc1 hev1 vp09 mp4a tx3g =
+    also_kept false STSD.1.1.0.0.now avc1 >>= λ a. also_kept a STSD.1.1.1.0.0.now hev1 >>= λ b.
+    also_kept b STSD.1.1.1.1.0.0.now vp09 >>= λ c. also_kept c STSD.1.1.1.1.1.0.0.now mp4a >>= λ d.
+    also_kept d STSD.1.1.1.1.1.1.0.0.now tx3g >>= λ _. Ok tt
+
+abbrev pub kept_of : StsdParts → Taking (Unit {0})
+kept_of v =
+    one_kept (is_some v.1.1.0) (is_some v.1.1.1.0) (is_some v.1.1.1.1.0) (is_some v.1.1.1.1.1.0)
+    (is_some v.1.1.1.1.1.1.0)
 
 abbrev pub stsd_taken : Takes StsdParts → Takes StsdBox
-stsd_taken taken ms = taken ms >>= λ p. one_kept false (entries_of p.0) >>= λ _. Ok (make_stsd p.0, p.1)
+stsd_taken taken ms = taken ms >>= λ p. kept_of p.0 >>= λ _. Ok (make_stsd p.0, p.1)

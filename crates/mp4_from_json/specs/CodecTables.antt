@@ -168,11 +168,14 @@ make_chunks first samples index = record {
   first_sample = 0;
 }
 
+abbrev pub first_taken : Takes (Option ℕ)
+first_taken ms = taken_if (has CHUNKS.1.1.1.0.0.now ms) (number_taken CHUNKS.1.1.1.0 32) ms
+
 abbrev pub chunk_members : Takes ChunkRun
 chunk_members ms =
     number_taken CHUNKS.0 32 ms >>= λ p. number_taken CHUNKS.1.0 32 p.1 >>= λ q.
     number_taken CHUNKS.1.1.0 32 q.1 >>= λ r.
-    taken_if (has CHUNKS.1.1.1.0.0.now r.1) (number_taken CHUNKS.1.1.1.0 32) r.1 >>= λ s.
+    first_taken r.1 >>= λ s.
     Ok ((make_chunks p.0 q.0 r.0, s.0), s.1)
 
 abbrev pub chunk_taken : Json → Taking ChunkRun
@@ -192,6 +195,11 @@ firsts_agree name i (e ∷ es) (run ∷ runs) =
 
 abbrev pub runs_of : List ChunkRun → List StscEntry
 runs_of runs = map (λ run. run.0) runs
+
+-- the first samples of runs, if they fit 32 bits
+abbrev pub firsts_in : List ChunkRun → Option (List ℕ)
+firsts_in runs =
+    if chunks_fit (runs_of runs) then Some (map (λ e. e.first_sample) (number_samples (runs_of runs))) else None
 
 -- the runs with their first samples, which have to fit 32 bits
 abbrev pub numbered_runs : List ℕ → List ChunkRun → Taking (List StscEntry)

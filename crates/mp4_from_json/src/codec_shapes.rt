@@ -1,16 +1,14 @@
 //! Shapes of the codec's boxes: boxes in boxes, texts, flags, fixed-point pairs, rectangles and transformations.
 
-ghost use Rattle.std.specs.Prelude.{◌≡◌, ◌==◌, ◌<◌, ◌^◌, IfSome, Option, Some, None, length, nat_lt};
+ghost use Rattle.std.specs.Prelude.{◌≡◌, ◌/◌, ◌%◌, ◌<◌, ◌^◌};
 ghost use Rattle.json.specs.Value.{value_view};
 ghost use Rattle.mp4_shown.specs.Event.{Text as SeenText, seen_text};
-ghost use Rattle.mp4_shown.specs.Numbers.{seen_number};
 ghost use Rattle.mp4_show.specs.Lists.{list_name};
 ghost use Rattle.mp4_from_json.specs.CodecShapes.{flag_taken, four_or_none, make_matrix, plain_text, plain_text_taken};
 ghost use Rattle.mp4_from_json.specs.CodecShapes.{rectangle_taken, resolution_taken, signed_small_in};
 ghost use Rattle.mp4_from_json.specs.Lists.{entries_taken, list_taken};
 ghost use Rattle.mp4_from_json.specs.Numbers.{at_path};
-ghost use Rattle.mp4_from_json.specs.Object.{has};
-ghost use Rattle.mp4_from_json.specs.Runs.{has_no_zero};
+ghost use Rattle.mp4_from_json.specs.Object.{has, left};
 ghost use Rattle.mp4_from_json.specs.Shapes.{group_taken, made_of, small_taken, taken_if};
 ghost use Rattle.mp4_from_json.specs.Taking.{TakesAs};
 ghost use Rattle.mp4_from_json.specs.declared.codec_shapes.TheConstants.{MATRIX};

@@ -2,7 +2,8 @@
 
 ghost use Rattle.std.specs.Prelude.{◌≡◌, ◌<◌, ◌^◌, IsTrue, Ok};
 ghost use Rattle.mp4_flat.specs.Language.{letters};
-ghost use Rattle.mp4_from_json.specs.CodecShapes.{kind_name, kind_taken, language_taken, letters_taken, without_letters};
+ghost use Rattle.mp4_from_json.specs.CodecShapes.{kind_name, kind_taken, language_taken, letters_taken};
+ghost use Rattle.mp4_from_json.specs.CodecShapes.{without_letters};
 ghost use Rattle.mp4_from_json.specs.Object.{left};
 ghost use Rattle.mp4_from_json.specs.Taking.{TakesAs};
 

@@ -1,6 +1,6 @@
 //! The chunks of samples.
 
-ghost use Rattle.std.specs.Prelude.{◌≡◌, map};
+ghost use Rattle.std.specs.Prelude.{◌≡◌, Ok, option_map};
 ghost use Rattle.json.specs.Value.{value_view};
 ghost use Rattle.mp4_declared.specs.OwnBox.{no_context};
 ghost use Rattle.mp4_show.specs.declared.fields.samples.TheConstants.{STSC};
@@ -9,7 +9,7 @@ ghost use Rattle.mp4_shown.specs.Shapes.{shown_as};
 ghost use Rattle.std.proofs.Common.{refl};
 ghost use Rattle.mp4_tables.specs.Chunks.{next_sample};
 ghost use Rattle.mp4_from_json.specs.CodecTables.{agrees_with, chunk_members, chunk_taken, make_stsc, numbered_runs};
-ghost use Rattle.mp4_from_json.specs.CodecTables.{runs_taken};
+ghost use Rattle.mp4_from_json.specs.CodecTables.{first_taken, firsts_in, runs_taken};
 ghost use Rattle.mp4_from_json.specs.Object.{left};
 ghost use Rattle.mp4_from_json.specs.Shapes.{made_of};
 ghost use Rattle.mp4_from_json.specs.Taking.{TakesAs};
@@ -32,7 +32,9 @@ use std::alloc::Global;
 type ChunkRun = (StscEntry, Option<u32>);
 
 /// Takes the first sample of a run out, if it is present.
-fn take_first(alloc: Global, object: &mut Object<'_>) -> Result<Option<u32>> {
+fn take_first(alloc: Global, object: &mut Object<'_>) -> Result<Option<u32>>
+    ensures { TakesAs (λ first. (first, left object.new)) result (first_taken (left object.old)) }
+{
     let name = CHUNKS.1.1.1.0;
     if object.has(name.0) {
         Ok(Some(take_number(alloc, name, 32, object)? as u32))
@@ -99,7 +101,9 @@ fn agrees_with(sample: u32, given: Option<u32>) -> bool
 }
 
 /// Returns the first samples of `runs`, or `None` if one can't be computed.
-fn firsts_of(alloc: Global, runs: &[ChunkRun]) -> Result<Option<Vec<u32>>> {
+fn firsts_of(alloc: Global, runs: &[ChunkRun]) -> Result<Option<Vec<u32>>>
+    ensures { TakesAs (λ firsts. option_map (λ found. found.items) firsts) result (Ok (firsts_in runs.now)) }
+{
     let mut firsts = Vec::new(alloc);
     let mut sample = 1;
     let mut chunk = match runs.first() {

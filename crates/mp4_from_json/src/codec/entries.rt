@@ -1,7 +1,5 @@
 //! Sample entries of video and subtitles, and what configures their decoders.
 
-ghost use Rattle.std.specs.Prelude.{◌≡◌, ◌&&◌, length, nat_lt};
-ghost use Rattle.json.specs.Value.{value_view};
 ghost use Rattle.mp4_declared.specs.OwnBox.{no_context};
 ghost use Rattle.mp4_show.specs.declared.fields.entries.TheConstants.{AVC1, AVCC, COLOR, HEV1, HVCC, TX3G, VP09};
 ghost use Rattle.mp4_show.specs.declared.fields.entries.TheConstants.{VP09_REST, VPCC, VPCC_REST};

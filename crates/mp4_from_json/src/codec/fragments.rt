@@ -1,12 +1,11 @@
 //! Boxes of movie fragments with optional fields.
 
-ghost use Rattle.std.specs.Prelude.{◌≡◌, ◌<◌, ◌^◌, nat_lt, bit_and};
-ghost use Rattle.json.specs.Value.{value_view};
+ghost use Rattle.std.specs.Prelude.{◌≡◌, []};
 ghost use Rattle.mp4_declared.specs.OwnBox.{no_context};
 ghost use Rattle.mp4_show.specs.declared.fields.fragments.TheConstants.{COLUMNS, TFHD, TRUN};
-ghost use Rattle.mp4_from_json.specs.CodecFragments.{column_taken, columns_taken, has_flag, make_tfhd, offset_in};
-ghost use Rattle.mp4_from_json.specs.CodecFragments.{trun_taken};
+ghost use Rattle.mp4_from_json.specs.CodecFragments.{column_taken, has_flag, make_tfhd, offset_in, trun_taken};
 ghost use Rattle.mp4_from_json.specs.Object.{left};
+ghost use Rattle.mp4_from_json.specs.Runs.{small_in};
 ghost use Rattle.mp4_from_json.specs.Shapes.{made_of};
 ghost use Rattle.mp4_from_json.specs.Taking.{TakesAs};
 

@@ -3,10 +3,11 @@
 ghost use Rattle.std.specs.Prelude.{◌≡◌, ◌||◌, ◌==◌};
 ghost use Rattle.mp4_declared.specs.OwnBox.{no_context};
 ghost use Rattle.mp4_show.specs.declared.fields.sound.TheConstants.{CONFIG, ESDS, MP4A, SPECIFIC, STREAM, STSD};
-ghost use Rattle.mp4_from_json.specs.CodecSound.{is_object_type, is_up_stream, make_config, make_esds, make_mp4a};
-ghost use Rattle.mp4_from_json.specs.CodecSound.{make_stream, specific_taken, stsd_taken};
+ghost use Rattle.mp4_from_json.specs.CodecSound.{also_kept, is_object_type, is_up_stream, make_config, make_esds};
+ghost use Rattle.mp4_from_json.specs.CodecSound.{make_mp4a, make_stream, one_kept, specific_taken, stsd_taken};
+ghost use Rattle.mp4_from_json.specs.Numbers.{number_taken};
 ghost use Rattle.mp4_from_json.specs.Object.{left};
-ghost use Rattle.mp4_from_json.specs.Shapes.{made_if, made_of};
+ghost use Rattle.mp4_from_json.specs.Shapes.{made_if, made_of, taken_if};
 ghost use Rattle.mp4_from_json.specs.Taking.{TakesAs};
 ghost use Rattle.mp4_from_json.specs.declared.error.Reason.TheVariants.{OutOfRange};
 
@@ -34,7 +35,10 @@ fn is_object_type(number: u64) -> bool
 }
 
 /// Takes the rate of a decoder out, which only the index 15 has.
-fn take_rate(alloc: Global, index: u64, object: &mut Object<'_>) -> Result<Option<u32>> {
+fn take_rate(alloc: Global, index: u64, object: &mut Object<'_>) -> Result<Option<u32>>
+    ensures { TakesAs (λ rate. (rate, left object.new)) result
+        (taken_if (index == 15) (number_taken SPECIFIC.1.1.0 24) (left object.old)) }
+{
     if index == 15 {
         Ok(Some(take_number(alloc, SPECIFIC.1.1.0, 24, object)? as u32))
     } else {
@@ -169,18 +173,28 @@ type StsdTaken = Full<
     ),
 >;
 
-/// Returns the name of the second of five entries that are present, each by its name, or `None` if at most one is.
-fn second_of(present: [(&'static str, bool); 5]) -> Option<&'static str> {
-    let mut has_one = false;
-    for (name, is_there) in present {
-        if is_there {
-            if has_one {
-                return Some(name);
-            }
-            has_one = true;
-        }
+/// Returns whether an entry is present, after the entries before `name` and this one. Refuses a second one.
+fn also_kept(alloc: Global, has_one: bool, name: &str, is_there: bool) -> Result<bool>
+    ensures { TakesAs (λ one. one) result (also_kept has_one name.now is_there) }
+{
+    if has_one && is_there {
+        Err(refuse(alloc, name, Reason::NotKept))
+    } else {
+        Ok(has_one || is_there)
     }
-    None
+}
+
+/// Refuses the second of five entries that are present.
+fn keep_one(alloc: Global, avc1: bool, hev1: bool, vp09: bool, mp4a: bool, tx3g: bool) -> Result<()>
+    ensures { TakesAs (λ v. v) result (one_kept avc1 hev1 vp09 mp4a tx3g) }
+{
+    let (first, (second, (third, (fourth, (fifth, ()))))) = STSD.1.1;
+    let has_one = also_kept(alloc, false, first.0, avc1)?;
+    let has_one = also_kept(alloc, has_one, second.0, hev1)?;
+    let has_one = also_kept(alloc, has_one, third.0, vp09)?;
+    let has_one = also_kept(alloc, has_one, fourth.0, mp4a)?;
+    also_kept(alloc, has_one, fifth.0, tx3g)?;
+    Ok(())
 }
 
 /// The box keeps one entry.
@@ -190,17 +204,14 @@ impl TakeFields for StsdBox {
     fn take(alloc: Global, object: &mut Object<'_>) -> Result<StsdBox> {
         let (version, (flags, rest)) = StsdTaken::take(alloc, STSD, NO_CONTEXT, object)?;
         let (avc1, (hev1, (vp09, (mp4a, (tx3g, ()))))) = rest;
-        let (first, (second, (third, (fourth, (fifth, ()))))) = STSD.1.1;
-        let present = [
-            (first.0, avc1.is_some()),
-            (second.0, hev1.is_some()),
-            (third.0, vp09.is_some()),
-            (fourth.0, mp4a.is_some()),
-            (fifth.0, tx3g.is_some()),
-        ];
-        if let Some(name) = second_of(present) {
-            return Err(refuse(alloc, name, Reason::NotKept));
-        }
+        keep_one(
+            alloc,
+            avc1.is_some(),
+            hev1.is_some(),
+            vp09.is_some(),
+            mp4a.is_some(),
+            tx3g.is_some(),
+        )?;
         Ok(StsdBox {
             version,
             flags,

@@ -1,18 +1,16 @@
 //! Tables of samples.
 
-ghost use Rattle.std.specs.Prelude.{◌≡◌, ◌==◌, Option, if◌then◌else◌, length, map, negsuc, pos};
-ghost use Rattle.std.specs.Int.{w32, w64, cast_unsigned};
+ghost use Rattle.std.specs.Prelude.{◌≡◌, length};
 ghost use Rattle.mp4_declared.specs.OwnBox.{no_context};
-ghost use Rattle.mp4_show.specs.Lists.{list_name};
 ghost use Rattle.mp4_show.specs.declared.fields.samples.TheConstants.{CO64, CTTS, DELTA, OFFSET, STCO, STSS, STSZ, STTS};
 ghost use Rattle.mp4_show.specs.declared.fields.tracks.TheConstants.{EDIT, ELST};
-ghost use Rattle.mp4_shown.specs.Event.{Text as SeenText, seen_text};
 ghost use Rattle.mp4_from_json.specs.CodecTables.{edit_bits, edit_time_taken, least_edit, make_co64, make_ctts, make_edit};
 ghost use Rattle.mp4_from_json.specs.CodecTables.{make_elst, make_offset, make_run, make_stco, make_stss, make_stsz};
 ghost use Rattle.mp4_from_json.specs.CodecTables.{make_stts, most_edit, sizes_fit, time_bits};
 ghost use Rattle.mp4_from_json.specs.ExtraEntries.{entry_made};
 ghost use Rattle.mp4_from_json.specs.Numbers.{number_taken};
 ghost use Rattle.mp4_from_json.specs.Shapes.{made_if, made_of};
+ghost use Rattle.mp4_from_json.specs.declared.error.Reason.TheVariants.{WrongCount};
 
 use crate::{
     NO_CONTEXT, Object, Reason, Result, TakeEntry, TakeFields, TakeShape, refuse, take_members,
