@@ -624,8 +624,8 @@ A field is present in each box of its type unless the last column says when it i
 
 ## Boxes from JSON
 
-`read_extra` of the crate [`mp4_from_json`](../crates/mp4_from_json/CALLING.md) makes a box of its JSON again. The
-JSON is an object with the fields of the box:
+`read_extra` of the crate [`mp4_from_json`](../crates/mp4_from_json/CALLING.md) makes a box of its JSON again, and
+`read_codec` one of the codec's 36 boxes. The JSON is an object with the fields of the box:
 
 - The names may come in any order. A field that is missing, a name that the box doesn't have, and a name that comes
   twice are refused.
@@ -633,6 +633,7 @@ JSON is an object with the fields of the box:
 - These members are *derived*. They may be left out, and are refused if they contradict their field:
     - the count of a list;
     - the meaning of a number, whose name ends in `_name`;
+    - `first_sample` in `stsc`;
     - a text or a number beside its bytes, whose name ends in `_hex`.
 - Reserved bits may be left out if they have the standard's value. Bytes that are present only if there are some, and
   empty lists of bytes, may be left out.
