@@ -23,4 +23,9 @@ pub mod CodecEntries
 pub mod CodecSound
 pub mod Codec
 pub mod Shown
+pub mod ShownLaws
 pub mod Back
+pub mod BackNumbers
+pub mod BackRuns
+pub mod BackLists
+pub mod BackShapes

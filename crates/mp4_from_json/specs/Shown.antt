@@ -4,18 +4,32 @@ use Rattle.std.specs.Fmt.{signed_decimal}
 use Rattle.std.specs.Int.{is_negative}
 use Rattle.std.specs.Str.Lossy.{utf8_lossy}
 use Rattle.hex.specs.Hex.{encode_lower}
-use Rattle.json.specs.Json.{Json, Items, no_items, item, Members, member}
+use Rattle.json.specs.Json.{Json, Items, no_items, item, Members, no_members, member}
 use Rattle.json.specs.Json as json
 use Rattle.mp4_shown.specs.Event.{Shown, Meaning}
 use Rattle.mp4_shown.specs.Event as shown
 use Rattle.mp4_shown.specs.Numbers.{is_hidden, value_as}
 use Rattle.mp4_shown.specs.declared.number_name.NumberAs.{NumberAs}
+use Rattle.mp4_shown.specs.declared.value.Matrix.{Matrix}
 use Rattle.mp4_shown_json.specs.Fixed.{fixed_text}
 use Rattle.mp4_shown_json.specs.Tokens.{code_text, is_number, last_bytes}
 
 abbrev pub array_of : List Json → Items
 array_of [] = no_items
 array_of (j ∷ js) = item j (array_of js)
+
+-- a fixed-point number
+abbrev fixed_json : ℤ → ℕ → Json
+fixed_json z bits = json.number (fixed_text (is_negative z) (unsigned_abs z) bits)
+
+-- the nine numbers of a transformation
+abbrev pub matrix_object : Matrix → Json
+matrix_object m =
+    json.object (member (codes "a") (fixed_json m.a 16) (member (codes "b") (fixed_json m.b 16)
+    (member (codes "u") (fixed_json m.u 30) (member (codes "c") (fixed_json m.c 16)
+    (member (codes "d") (fixed_json m.d 16) (member (codes "v") (fixed_json m.v 30)
+    (member (codes "x") (fixed_json m.x 16) (member (codes "y") (fixed_json m.y 16)
+    (member (codes "w") (fixed_json m.w 30) no_members)))))))))
 
 -- a value
 abbrev pub json_of : Shown → Json
@@ -34,7 +48,7 @@ json_of (shown.code_list cs) = json.array (array_of (map (λ c. json.string (cod
 json_of (shown.text t) = json.string (utf8_lossy t)
 json_of (shown.bytes bs) = json.string (encode_lower bs)
 json_of (shown.number_list zs) = json.array (array_of (map (λ z. json.number (signed_decimal z)) zs))
-json_of (shown.matrix m) = json.null
+json_of (shown.matrix m) = matrix_object m
 
 -- the meaning of a number, if it has one
 abbrev pub meaning_before : List ℕ → Shown → Members → Members
