@@ -1,6 +1,6 @@
 -- Boxes of movie fragments, which are made of the parts that are taken.
-use Rattle.std.specs.Prelude.{ℕ, ℤ, pos, negsuc, ◌-◌, ◌^◌, ◌==◌, ◌&&◌, ◌||◌, nat_lt, int_le, bit_and, not, Bool, List, []}
-use Rattle.std.specs.Prelude.{Option, if◌then◌else◌, Ok}
+use Rattle.std.specs.Prelude.{ℕ, ℤ, pos, negsuc, ◌-◌, ◌^◌, ◌==◌, ◌&&◌, ◌||◌, nat_lt, int_le, bit_and, not, Bool}
+use Rattle.std.specs.Prelude.{List, [], Option, if◌then◌else◌, Ok}
 use Rattle.std.specs.Int.{w32, cast_unsigned}
 use Rattle.json.specs.Json.{Json}
 use Rattle.mp4_tables.specs.declared.tfhd.TfhdBox.{TfhdBox}

@@ -134,10 +134,13 @@ stream_bytes (_ ∷ _ ∷ _ ∷ _ ∷ _ ∷ f ∷ g ∷ _) (a ∷ b ∷ c ∷ d 
     ++ be_bytes 8 (rate * 2 ^ 44 + ((channels - 1) * 2 ^ 41 + ((bits - 1) * 2 ^ 36 + total)))))))
 stream_bytes fs ns = Ok []
 
+abbrev pub stream_numbers_taken : List NumberName → Takes (List ℕ)
+stream_numbers_taken fs ms = numbers_taken fs stream_widths ms >>= λ p. stream_bytes fs p.0 >>= λ bytes. Ok (bytes, p.1)
+
 abbrev pub info_taken : List NumberName → BytesName → Takes (List ℕ)
 info_taken fs checksum ms =
-    numbers_taken fs stream_widths ms >>= λ p. stream_bytes fs p.0 >>= λ bytes.
-    run_if checksum (λ sum. length sum == 16) reasons.WrongLength p.1 >>= λ q. Ok (bytes ++ q.0, q.1)
+    stream_numbers_taken fs ms >>= λ p. run_if checksum (λ sum. length sum == 16) reasons.WrongLength p.1 >>= λ q.
+    Ok (p.0 ++ q.0, q.1)
 
 abbrev pub block_data_taken : ℕ → Takes (List ℕ)
 block_data_taken block_type ms =

@@ -32,6 +32,9 @@ abbrev pub bit_byte : List ℕ → List ℕ
 bit_byte (bit ∷ rest ∷ ns) = (bit * 128 + rest) ∷ []
 bit_byte ns = []
 
+abbrev pub bit_taken : List NumberName → Takes (List ℕ)
+bit_taken fs ms = map_taken bit_byte (numbers_taken fs (1 ∷ 7 ∷ []) ms)
+
 abbrev pub encryption_bytes : List ℕ → List ℕ
 encryption_bytes (reserved ∷ crypt ∷ skip ∷ protected ∷ size ∷ ns) =
     reserved ∷ (crypt * 16 + skip) ∷ protected ∷ size ∷ []
@@ -55,8 +58,8 @@ abbrev pub kind_taken : GroupKind → Takes (List ℕ)
 kind_taken kinds.Roll ms =
     map_taken (λ z. be_bytes 2 (cast_unsigned w16 z))
     (signed_taken sgpd.ROLL_DISTANCE (negsuc (2 ^ 15 - 1)) (pos (2 ^ 15 - 1)) ms)
-kind_taken kinds.RandomAccess ms = map_taken bit_byte (numbers_taken sgpd.LEADING.now (1 ∷ 7 ∷ []) ms)
-kind_taken kinds.Level ms = map_taken bit_byte (numbers_taken sgpd.LEVEL.now (1 ∷ 7 ∷ []) ms)
+kind_taken kinds.RandomAccess ms = bit_taken sgpd.LEADING.now ms
+kind_taken kinds.Level ms = bit_taken sgpd.LEVEL.now ms
 kind_taken kinds.Encryption ms = encryption_taken ms
 kind_taken kinds.Unknown ms = run_taken sgpd.UNKNOWN ms
 

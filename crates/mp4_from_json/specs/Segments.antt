@@ -30,6 +30,8 @@ use Rattle.mp4_from_json.specs.Runs.{run_taken}
 use Rattle.mp4_from_json.specs.Shapes.{Takes}
 use Rattle.mp4_from_json.specs.Taking.{Taking, refused, expect, ◌>>=◌}
 use Rattle.mp4_from_json.specs.Values.{hex_in, or_else, signed_in as signed_number, whole_in}
+use Rattle.mp4_from_json.specs.declared.data.Locale.{Locale}
+use Rattle.mp4_from_json.specs.declared.data.Locale.TheVariants as locales
 use Rattle.mp4_from_json.specs.declared.error.Reason.TheVariants as reasons
 
 -- ---- data: the type says how the value is read
@@ -46,6 +48,10 @@ abbrev pub language_of : List ℕ → Option ℕ
 language_of (a ∷ b ∷ c ∷ []) =
     if is_lower a && (is_lower b && is_lower c) then Some ((a - 96) * 1024 + ((b - 96) * 32 + (c - 96))) else None
 language_of s = None
+
+abbrev pub code_by : Locale → List ℕ → Option ℕ
+code_by locales.Country = country_of
+code_by locales.Language = language_of
 
 abbrev pub letters_or_refused : List ℕ → Option ℕ → Taking ℕ
 letters_or_refused name (Some n) = Ok n
@@ -141,10 +147,13 @@ data_taken ms =
 
 -- ---- infe: the type says what follows the name
 
-abbrev pub strings_name : Option FourCC → BytesName
-strings_name t =
+abbrev pub name_of_strings : Bool → Bool → BytesName
+name_of_strings is_mime is_uri =
     let names = infe.NAMES.1.1.1.1.1.1 in
-    if is_type infe.MIME t then names.0.0 else if is_type infe.URI t then names.1.0 else names.1.1
+    if is_mime then names.0.0 else if is_uri then names.1.0 else names.1.1
+
+abbrev pub strings_name : Option FourCC → BytesName
+strings_name t = name_of_strings (is_type infe.MIME t) (is_type infe.URI t)
 
 -- version, flags, number, protection, type and name
 abbrev pub ItemFront : Type 0

@@ -45,7 +45,8 @@ value_shows (shown.flags n digits meanings) = refl
 value_shows (shown.date n) = refl
 value_shows (shown.fixed n bits) = refl
 value_shows (shown.signed_fixed z bits) = refl
-value_shows (shown.float text) = ap json_tokens (sym (float_same (is_number text) text)) ∙ float_is (is_number text) text
+value_shows (shown.float text) =
+    ap json_tokens (sym (float_same (is_number text) text)) ∙ float_is (is_number text) text
 value_shows (shown.media_time z) = refl
 value_shows (shown.hex n count) = refl
 value_shows (shown.code bytes) = refl

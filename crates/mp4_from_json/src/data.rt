@@ -1,6 +1,12 @@
 //! The metadata value box.
 
-ghost use Rattle.mp4_from_json.specs.Segments.{data_taken};
+ghost use Rattle.std.specs.Prelude.{◌≡◌, ◌-◌, Some, None, if◌then◌else◌};
+ghost use Rattle.mp4_extra_segments.specs.ShownValue.{is_letter};
+ghost use Rattle.mp4_extra_segments.specs.declared.data.TheConstants as data_box;
+ghost use Rattle.mp4_from_json.specs.Object.{left};
+ghost use Rattle.mp4_from_json.specs.Segments.{code_by, data_taken, is_lower, locale_taken, number_taken_by};
+ghost use Rattle.mp4_from_json.specs.Segments.{value_taken};
+ghost use Rattle.mp4_from_json.specs.Taking.{TakesAs};
 
 use crate::big_endian::push_number;
 use crate::{
@@ -21,7 +27,9 @@ enum Locale {
 }
 
 /// Returns the number of the letter `byte` in a packed language, or `None` if it is none.
-fn letter(byte: u8) -> Option<u16> {
+fn letter(byte: u8) -> Option<u16>
+    ensures { result ≡ (if is_lower byte then Some (byte - 96) else None) }
+{
     if 97 <= byte && byte <= 122 {
         Some(u16::from(byte - 96))
     } else {
@@ -30,12 +38,16 @@ fn letter(byte: u8) -> Option<u16> {
 }
 
 /// Returns whether `byte` is a letter of ASCII.
-fn is_letter(byte: u8) -> bool {
+fn is_letter(byte: u8) -> bool
+    ensures { result ≡ is_letter byte }
+{
     (65 <= byte && byte <= 90) || (97 <= byte && byte <= 122)
 }
 
 /// Returns the number of a part of a locale with the letters `text`, or `None` if they aren't letters of one.
-fn code_of(locale: Locale, text: &[u8]) -> Option<u16> {
+fn code_of(locale: Locale, text: &[u8]) -> Option<u16>
+    ensures { result ≡ code_by locale text.now }
+{
     match locale {
         Locale::Country => {
             if text.len() != 2 || !is_letter(text[0]) || !is_letter(text[1]) {
@@ -53,7 +65,9 @@ fn code_of(locale: Locale, text: &[u8]) -> Option<u16> {
 }
 
 /// Takes a part of a locale out: its letters, or its number. 0 is absent.
-fn take_locale(alloc: Global, name: &str, locale: Locale, object: &mut Object<'_>) -> Result<u16> {
+fn take_locale(alloc: Global, name: &str, locale: Locale, object: &mut Object<'_>) -> Result<u16>
+    ensures { TakesAs (λ n. (n, left object.new)) result (locale_taken name.now (code_by locale) (left object.old)) }
+{
     let Some(value) = object.take_out(alloc, name)? else {
         return Ok(0);
     };
@@ -142,7 +156,10 @@ fn number_bytes(
 }
 
 /// Takes a number and its bytes out, of which one may be absent. Returns its bytes.
-fn take_number_bytes(alloc: Global, signed: bool, object: &mut Object<'_>) -> Result<Entries<u8>> {
+fn take_number_bytes(alloc: Global, signed: bool, object: &mut Object<'_>) -> Result<Entries<u8>>
+    ensures { TakesAs (λ bytes. (bytes, left object.new)) result
+        (number_taken_by signed data_box.NAMES.1.1.1.1.1.0.now data_box.NAMES.1.1.1.1.1.1.0.0.now (left object.old)) }
+{
     let (_, (name, (number_hex, _))) = data::NAMES.1.1.1.1;
     let value = object.take_out(alloc, name)?;
     let hex = object.take_out(alloc, number_hex.0)?;
@@ -155,7 +172,9 @@ fn take_value(
     is_known: bool,
     data_type: u32,
     object: &mut Object<'_>,
-) -> Result<Entries<u8>> {
+) -> Result<Entries<u8>>
+    ensures { TakesAs (λ bytes. (bytes, left object.new)) result (value_taken is_known data_type (left object.old)) }
+{
     let (text, (_, (_, bytes))) = data::NAMES.1.1.1.1;
     if is_known && data_type == 1 {
         Ok(take_bytes(alloc, text, object)?.into())

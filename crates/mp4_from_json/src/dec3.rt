@@ -1,6 +1,8 @@
 //! The Enhanced AC-3 specific box.
 
-ghost use Rattle.mp4_from_json.specs.Media.{dec3_taken, stream_taken};
+ghost use Rattle.mp4_from_json.specs.Media.{dec3_taken, stream_members, stream_taken};
+ghost use Rattle.mp4_from_json.specs.Object.{left};
+ghost use Rattle.mp4_from_json.specs.Taking.{TakesAs};
 
 use crate::big_endian::{joined, push_number};
 use crate::{
@@ -19,7 +21,9 @@ use std::alloc::Global;
 const DEPENDENTS: &str = "num_dep_sub";
 
 /// Takes the bytes of a stream out.
-fn take_stream(alloc: Global, object: &mut Object<'_>) -> Result<Vec<u8>> {
+fn take_stream(alloc: Global, object: &mut Object<'_>) -> Result<Vec<u8>>
+    ensures { TakesAs (λ bytes. (bytes.items, left object.new)) result (stream_members (left object.old)) }
+{
     let mut bytes = Vec::new(alloc);
     if object.number(DEPENDENTS) == Some(0) {
         let numbers = take_numbers(alloc, STREAM, &STREAM_WIDTHS, object)?;

@@ -1,6 +1,13 @@
 //! The blocks of the FLAC specific box.
 
-ghost use Rattle.mp4_from_json.specs.Media.{block_taken};
+ghost use Rattle.std.specs.Prelude.{map};
+ghost use Rattle.mp4_extra_media.specs.declared.dfla.TheConstants as dfla;
+ghost use Rattle.mp4_shown.specs.Numbers.{seen_number};
+ghost use Rattle.mp4_shown.specs.Runs.{seen_bytes};
+ghost use Rattle.mp4_from_json.specs.Media.{block_data_taken, block_members, block_taken, info_taken, length_taken};
+ghost use Rattle.mp4_from_json.specs.Media.{stream_numbers_taken};
+ghost use Rattle.mp4_from_json.specs.Object.{left};
+ghost use Rattle.mp4_from_json.specs.Taking.{TakesAs};
 
 use crate::big_endian::push_number;
 use crate::{
@@ -22,7 +29,10 @@ fn take_stream_numbers(
     alloc: Global,
     names: &[NumberName],
     object: &mut Object<'_>,
-) -> Result<Vec<u8>> {
+) -> Result<Vec<u8>>
+    ensures { TakesAs (λ bytes. (bytes.items, left object.new)) result
+        (stream_numbers_taken (map seen_number names.now) (left object.old)) }
+{
     let mut numbers: [u64; 8] = [0; 8];
     for k in 0..names.len().min(8) {
         numbers[k] = take_number(alloc, names[k], WIDTHS[k], object)?;
@@ -53,7 +63,10 @@ fn take_stream_info(
     names: &[NumberName],
     checksum: BytesName,
     object: &mut Object<'_>,
-) -> Result<Vec<u8>> {
+) -> Result<Vec<u8>>
+    ensures { TakesAs (λ bytes. (bytes.items, left object.new)) result
+        (info_taken (map seen_number names.now) (seen_bytes checksum.entry) (left object.old)) }
+{
     let mut bytes = take_stream_numbers(alloc, names, object)?;
     let sum = take_bytes(alloc, checksum, object)?;
     if sum.len() != 16 {
@@ -64,7 +77,9 @@ fn take_stream_info(
 }
 
 /// Takes the data of a block out: the fields of a STREAMINFO, or bytes.
-fn take_data(alloc: Global, block_type: u8, object: &mut Object<'_>) -> Result<Vec<u8>> {
+fn take_data(alloc: Global, block_type: u8, object: &mut Object<'_>) -> Result<Vec<u8>>
+    ensures { TakesAs (λ bytes. (bytes.items, left object.new)) result (block_data_taken block_type (left object.old)) }
+{
     let (_, (names, (checksum, bytes))) = BLOCK.1;
     if block_type == 0 && !object.has(bytes.0) {
         take_stream_info(alloc, names, checksum, object)
@@ -74,7 +89,9 @@ fn take_data(alloc: Global, block_type: u8, object: &mut Object<'_>) -> Result<V
 }
 
 /// Takes the length of a block out, if it is present, and checks it.
-fn take_length(alloc: Global, length: usize, object: &mut Object<'_>) -> Result<()> {
+fn take_length(alloc: Global, length: usize, object: &mut Object<'_>) -> Result<()>
+    ensures { TakesAs (λ _. left object.new) result (length_taken dfla.BLOCK.1.0.0.now length (left object.old)) }
+{
     let name = BLOCK.1.0.0;
     let Some(value) = object.take_out(alloc, name)? else {
         return Ok(());
@@ -87,7 +104,10 @@ fn take_length(alloc: Global, length: usize, object: &mut Object<'_>) -> Result<
 }
 
 /// Takes a block out.
-fn take_block(alloc: Global, object: &mut Object<'_>) -> Result<FlacMetadataBlock> {
+fn take_block(alloc: Global, object: &mut Object<'_>) -> Result<FlacMetadataBlock>
+    ensures { TakesAs (λ block. (block, left object.new)) result
+        (block_members ⟦<FlacBlockKind as EntryLayout<2, 1>>⟧.layout (left object.old)) }
+{
     let kind = Bits::<FlacBlockKind, 2, 1>::take(alloc, BLOCK.0, NO_CONTEXT, object)?;
     let block_data = take_data(alloc, kind.block_type, object)?;
     if block_data.len() >= 1 << 24 {

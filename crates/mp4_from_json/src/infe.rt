@@ -2,7 +2,9 @@
 
 ghost use Rattle.mp4_declared.specs.OwnBox.{no_context};
 ghost use Rattle.mp4_extra_segments.specs.declared.infe.TheConstants as infe;
-ghost use Rattle.mp4_from_json.specs.Segments.{infe_taken};
+ghost use Rattle.std.specs.Prelude.{◌≡◌};
+ghost use Rattle.mp4_shown.specs.Runs.{seen_bytes};
+ghost use Rattle.mp4_from_json.specs.Segments.{infe_taken, name_of_strings};
 
 use crate::{NO_CONTEXT, Object, Result, TakeFields, TakeShape, take_bytes};
 use mp4_declared::{Code, FromVersion, Full, If, Last, Terminated, U16};
@@ -15,7 +17,9 @@ use std::alloc::Global;
 type Front = Full<4, (ItemId<3>, U16, If<FromVersion<2>, Code>, Last<Terminated>)>;
 
 /// Returns the name of the bytes after the name of an item.
-fn strings_name(is_mime: bool, is_uri: bool) -> BytesName {
+fn strings_name(is_mime: bool, is_uri: bool) -> BytesName
+    ensures { seen_bytes result ≡ name_of_strings is_mime is_uri }
+{
     let (mime, (uri, other)) = infe::NAMES.1.1.1.1.1.1;
     if is_mime {
         mime.0

@@ -2,7 +2,13 @@
 
 ghost use Rattle.mp4_declared.specs.OwnBox.{no_context};
 ghost use Rattle.mp4_extra_samples.specs.declared.sgpd.TheConstants as sgpd;
-ghost use Rattle.mp4_from_json.specs.Samples.{description_taken, sgpd_taken};
+ghost use Rattle.std.specs.Prelude.{map};
+ghost use Rattle.mp4_shown.specs.Numbers.{seen_number};
+ghost use Rattle.mp4_from_json.specs.Media.{length_taken};
+ghost use Rattle.mp4_from_json.specs.Object.{left};
+ghost use Rattle.mp4_from_json.specs.Samples.{bit_taken, description_members, description_taken, encryption_taken};
+ghost use Rattle.mp4_from_json.specs.Samples.{fields_or_bytes, sgpd_taken};
+ghost use Rattle.mp4_from_json.specs.Taking.{TakesAs};
 
 use crate::big_endian::push_number;
 use crate::{
@@ -35,7 +41,10 @@ fn take_bit_and_rest(
     alloc: Global,
     names: &[NumberName],
     object: &mut Object<'_>,
-) -> Result<Vec<u8>> {
+) -> Result<Vec<u8>>
+    ensures { TakesAs (λ bytes. (bytes.items, left object.new)) result
+        (bit_taken (map seen_number names.now) (left object.old)) }
+{
     let [bit, rest] = take_numbers(alloc, names, &[1, 7], object)?;
     let mut bytes = Vec::new(alloc);
     push_number(bit * 128 + rest, 1, &mut bytes)?;
@@ -43,7 +52,9 @@ fn take_bit_and_rest(
 }
 
 /// Takes the fields of a `seig` out.
-fn take_encryption(alloc: Global, object: &mut Object<'_>) -> Result<Vec<u8>> {
+fn take_encryption(alloc: Global, object: &mut Object<'_>) -> Result<Vec<u8>>
+    ensures { TakesAs (λ bytes. (bytes.items, left object.new)) result (encryption_taken (left object.old)) }
+{
     let [reserved, crypt, skip, protected, size] = take_numbers(
         alloc,
         ENCRYPTION,
@@ -68,7 +79,9 @@ fn take_encryption(alloc: Global, object: &mut Object<'_>) -> Result<Vec<u8>> {
 }
 
 /// Takes a description of this `kind` out: its fields, or bytes.
-fn take_description(alloc: Global, kind: GroupKind, object: &mut Object<'_>) -> Result<Vec<u8>> {
+fn take_description(alloc: Global, kind: GroupKind, object: &mut Object<'_>) -> Result<Vec<u8>>
+    ensures { TakesAs (λ bytes. (bytes.items, left object.new)) result (fields_or_bytes kind (left object.old)) }
+{
     if object.has(UNKNOWN.0) {
         return take_bytes(alloc, UNKNOWN, object);
     }
@@ -87,7 +100,10 @@ fn take_description(alloc: Global, kind: GroupKind, object: &mut Object<'_>) -> 
 }
 
 /// Takes the length of a description out, if it is present, and checks it.
-fn take_length(alloc: Global, length: usize, object: &mut Object<'_>) -> Result<()> {
+fn take_length(alloc: Global, length: usize, object: &mut Object<'_>) -> Result<()>
+    ensures { TakesAs (λ _. left object.new) result
+        (length_taken sgpd.DESCRIPTION_LENGTH.0.now length (left object.old)) }
+{
     let Some(value) = object.take_out(alloc, DESCRIPTION_LENGTH.0)? else {
         return Ok(());
     };
@@ -103,7 +119,10 @@ fn take_piece(
     alloc: Global,
     descriptions: &Descriptions,
     object: &mut Object<'_>,
-) -> Result<Vec<u8>> {
+) -> Result<Vec<u8>>
+    ensures { TakesAs (λ bytes. (bytes.items, left object.new)) result
+        (description_members descriptions.now (left object.old)) }
+{
     let kind = kind_of(u32::from(descriptions.grouping_type));
     let description = take_description(alloc, kind, object)?;
     match descriptions.default_length {

@@ -2,7 +2,12 @@
 
 ghost use Rattle.mp4_declared.specs.OwnBox.{no_context};
 ghost use Rattle.mp4_extra_samples.specs.declared.stz2.TheConstants as stz2;
-ghost use Rattle.mp4_from_json.specs.Samples.{stz2_taken};
+ghost use Rattle.std.specs.Prelude.{◌≤◌, []};
+ghost use Rattle.json.specs.Value.{value_view};
+ghost use Rattle.mp4_from_json.specs.Object.{left};
+ghost use Rattle.mp4_from_json.specs.Runs.{small_in};
+ghost use Rattle.mp4_from_json.specs.Samples.{entries_or_bytes, stz2_taken};
+ghost use Rattle.mp4_from_json.specs.Taking.{TakesAs, entry_path, within};
 
 use crate::{
     NO_CONTEXT, Object, Reason, Result, TakeFields, TakeShape, refuse, take_bytes, take_number,
@@ -17,7 +22,11 @@ use std::alloc::Global;
 type Front = Full<1, (U8, Last<U32>)>;
 
 /// Returns the size of `bits` bits that `value` is.
-fn size_in(alloc: Global, name: &str, bits: u8, index: usize, value: &Value<'_>) -> Result<u16> {
+fn size_in(alloc: Global, name: &str, bits: u8, index: usize, value: &Value<'_>) -> Result<u16>
+    requires { bits ≤ 16 }
+    ensures { TakesAs (λ size. size) result
+        (within (entry_path name.now index) (small_in bits [] (value_view value.now))) }
+{
     let reason = match value.as_u64() {
         Some(size) => {
             if bits <= 16 && size < 1 << bits {
@@ -66,7 +75,9 @@ fn take_entries(
     bits: u8,
     count: u32,
     object: &mut Object<'_>,
-) -> Result<Entries<u8>> {
+) -> Result<Entries<u8>>
+    ensures { TakesAs (λ bytes. (bytes, left object.new)) result (entries_or_bytes bits count (left object.old)) }
+{
     let (name, (padding_name, (too_few, rest_name))) = stz2::NAMES.1.1.1.1;
     if !object.has(name) {
         return Ok(take_bytes(alloc, too_few, object)?.into());

@@ -2,7 +2,9 @@
 
 ghost use Rattle.mp4_declared.specs.OwnBox.{no_context};
 ghost use Rattle.mp4_extra_segments.specs.declared.tfra.TheConstants as tfra;
-ghost use Rattle.mp4_from_json.specs.Segments.{access_taken, tfra_taken};
+ghost use Rattle.mp4_from_json.specs.Object.{left};
+ghost use Rattle.mp4_from_json.specs.Segments.{access_taken, access_widths, numbers_of_widths, tfra_taken};
+ghost use Rattle.mp4_from_json.specs.Taking.{TakesAs};
 
 use crate::big_endian::push_number;
 use crate::{
@@ -32,7 +34,10 @@ fn widths_of(accesses: &Accesses) -> [u32; 5] {
 }
 
 /// Takes the numbers of an entry out, and returns its bytes.
-fn take_access(alloc: Global, accesses: &Accesses, object: &mut Object<'_>) -> Result<Vec<u8>> {
+fn take_access(alloc: Global, accesses: &Accesses, object: &mut Object<'_>) -> Result<Vec<u8>>
+    ensures { TakesAs (λ bytes. (bytes.items, left object.new)) result
+        (numbers_of_widths tfra.ACCESS.now (access_widths accesses.now) (left object.old)) }
+{
     let widths = widths_of(accesses);
     let mut bytes = Vec::new(alloc);
     for k in 0..ACCESS.len().min(5) {
@@ -56,7 +61,8 @@ impl TakePieces for Accesses {
 
 impl TakeFields for Tfra {
     ghost taken = { tfra_taken (⟦<Front as TakeShape>⟧.taken
-        (tfra.NAMES.0, (tfra.NAMES.1.0, (tfra.NAMES.1.1.0, (tfra.NAMES.1.1.1.0, (tfra.NAMES.1.1.1.1.0, tt))))) no_context) };
+        (tfra.NAMES.0, (tfra.NAMES.1.0, (tfra.NAMES.1.1.0, (tfra.NAMES.1.1.1.0, (tfra.NAMES.1.1.1.1.0, tt)))))
+        no_context) };
 
     fn take(alloc: Global, object: &mut Object<'_>) -> Result<Tfra> {
         let names = (

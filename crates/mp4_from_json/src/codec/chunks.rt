@@ -75,9 +75,9 @@ impl TakeItem<ChunkRun> for ChunkItem {
     }
 }
 
-/// Returns the first sample of a run that begins at chunk `first`. The run before it begins at chunk `chunk` with sample
-/// `sample`, and has `samples` samples in each chunk. Returns `None` if `first` is below `chunk`, or if the sample
-/// doesn't fit 32 bits.
+/// Returns the first sample of a run that begins at chunk `first`. The run before it begins at chunk `chunk` with
+/// sample `sample`, and has `samples` samples in each chunk. Returns `None` if `first` is below `chunk`, or if the
+/// sample doesn't fit 32 bits.
 fn next_sample(sample: u32, chunk: u32, samples: u32, first: u32) -> Option<u32>
     ensures { result ≡ next_sample sample chunk samples first }
 {

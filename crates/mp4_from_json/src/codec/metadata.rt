@@ -2,7 +2,7 @@
 
 ghost use Rattle.std.specs.Prelude.{◌≡◌};
 ghost use Rattle.mp4_show.specs.declared.fields.metadata.TheConstants.{DATA};
-ghost use Rattle.mp4_from_json.specs.CodecText.{data_box_taken, digits_taken, integer_bytes, integer_taken, integer_width};
+ghost use Rattle.mp4_from_json.specs.CodecText.{data_box_taken, digits_taken, integer_taken, integer_width};
 ghost use Rattle.mp4_from_json.specs.CodecText.{type_or_refused, value_taken};
 ghost use Rattle.mp4_from_json.specs.Object.{left};
 ghost use Rattle.mp4_from_json.specs.Taking.{TakesAs};

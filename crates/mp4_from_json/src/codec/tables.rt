@@ -2,11 +2,12 @@
 
 ghost use Rattle.std.specs.Prelude.{◌≡◌, length};
 ghost use Rattle.mp4_declared.specs.OwnBox.{no_context};
-ghost use Rattle.mp4_show.specs.declared.fields.samples.TheConstants.{CO64, CTTS, DELTA, OFFSET, STCO, STSS, STSZ, STTS};
+ghost use Rattle.mp4_show.specs.declared.fields.samples.TheConstants.{CO64, CTTS, DELTA, OFFSET, STCO, STSS};
+ghost use Rattle.mp4_show.specs.declared.fields.samples.TheConstants.{STSZ, STTS};
 ghost use Rattle.mp4_show.specs.declared.fields.tracks.TheConstants.{EDIT, ELST};
-ghost use Rattle.mp4_from_json.specs.CodecTables.{edit_bits, edit_time_taken, least_edit, make_co64, make_ctts, make_edit};
-ghost use Rattle.mp4_from_json.specs.CodecTables.{make_elst, make_offset, make_run, make_stco, make_stss, make_stsz};
-ghost use Rattle.mp4_from_json.specs.CodecTables.{make_stts, most_edit, sizes_fit, time_bits};
+ghost use Rattle.mp4_from_json.specs.CodecTables.{edit_bits, edit_time_taken, least_edit, make_co64, make_ctts};
+ghost use Rattle.mp4_from_json.specs.CodecTables.{make_edit, make_elst, make_offset, make_run, make_stco, make_stss};
+ghost use Rattle.mp4_from_json.specs.CodecTables.{make_stsz, make_stts, most_edit, sizes_fit, time_bits};
 ghost use Rattle.mp4_from_json.specs.ExtraEntries.{entry_made};
 ghost use Rattle.mp4_from_json.specs.Numbers.{number_taken};
 ghost use Rattle.mp4_from_json.specs.Shapes.{made_if, made_of};
