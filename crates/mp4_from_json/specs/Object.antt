@@ -1,5 +1,6 @@
 -- The members of an object, which are taken out one by one.
-use Rattle.std.specs.Prelude.{ℕ, ◌==◌, List, [], Bool, false, if◌then◌else◌, Option, Some, None, is_some, Result, Ok, Err}
+use Rattle.std.specs.Prelude.{ℕ, ◌==◌, List, [], Bool, false, if◌then◌else◌, Option, Some, None}
+use Rattle.std.specs.Prelude.{is_some, Result, Ok, Err}
 use Rattle.std.specs.Str.{bytes_eq}
 use Rattle.json.specs.Json.{Json, null, boolean, number, string, array, object, Members, no_members, member}
 use Rattle.json.specs.Value.{members_view}
