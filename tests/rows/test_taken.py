@@ -30,8 +30,6 @@ CODEC = 1
 NOT_KEPT = {
     "dref::fields_of_no_references", "dinf::fields_of_the_reference_inside", "stsd::fields_of_descriptions",
 }
-# The type of a value of metadata whose bytes the codec's `data` doesn't show beside a text or a number.
-SHORT_OF_BYTES = "DataBox"
 REASONS = {
     "json": "is not JSON",
     "object": "is not an object",
@@ -266,7 +264,7 @@ class Taken(unittest.TestCase):
         lines = backs([(row.at, row.buffer) for _, row in found])
         self.assertGreater(sum(len(it) for it in lines), 3000)
         wrong = [f"{name}: {line[:2000]}" for (name, _), it in zip(found, lines) for line in it
-                 if line != "same" and SHORT_OF_BYTES not in line]
+                 if line != "same"]
         if wrong:
             self.fail("\n".join([f"{len(wrong)} differences", *wrong[:40]]))
 
@@ -448,7 +446,11 @@ class Taken(unittest.TestCase):
             ({"data_type": 2, "data_bytes": "00"}, "data_type", "range"),
             ({"data_type": 21, "number": 2**31}, "number", "range"),
             ({"data_type": 1, "number": 5}, "text", "missing"),
-            ({"data_type": 1, "text": "a", "data_bytes": "62"}, "text", "contradiction"),
+            ({"data_type": 1, "text": "a", "text_hex": "62"}, "text", "contradiction"),
+            ({"data_type": 21, "number": 5, "number_hex": "0006"}, "number", "contradiction"),
+            ({"data_type": 21, "number": 5, "number_hex": "000005"}, "number_hex", "length"),
+            ({"data_type": 21, "number": 5, "data_bytes": "000005"}, "number", "unknown"),
+            ({"data_type": 21}, "number", "missing"),
         ], CODEC)
 
     def test_entries_of_the_codec(self):
@@ -490,7 +492,11 @@ class Taken(unittest.TestCase):
                  (32768, "00008000"), (-(2**31), "80000000")]
         self.compare([(b"data", json.dumps({"data_type": 21, "number": number}), made(bytes.fromhex(content)))
                       for number, content in cases], CODEC)
-        self.compare([(b"data", json.dumps({"data_type": 21, "data_bytes": "000102"}), made(b"\0\1\2"))], CODEC)
+        self.compare([
+            (b"data", json.dumps({"data_type": 21, "data_bytes": "000102"}), made(b"\0\1\2")),
+            (b"data", json.dumps({"data_type": 21, "number": 2, "number_hex": "0002"}), made(b"\0\2")),
+            (b"data", json.dumps({"data_type": 21, "number_hex": "0002"}), made(b"\0\2")),
+        ], CODEC)
 
     def test_made(self):
         """Texts that no box is shown as: derived members are left out, numbers are rounded, bytes stand alone."""

@@ -1,6 +1,6 @@
 -- Boxes of strings, data and references, which are made of the parts that are taken.
-use Rattle.std.specs.Prelude.{ℕ, ℤ, pos, negsuc, ◌-◌, ◌^◌, ◌==◌, ◌&&◌, int_le, List, codes, length}
-use Rattle.std.specs.Prelude.{Option, Some, None, if◌then◌else◌, Ok}
+use Rattle.std.specs.Prelude.{ℕ, ℤ, pos, negsuc, ◌-◌, ◌^◌, ◌==◌, ◌&&◌, int_le, Bool, true, false, List, codes}
+use Rattle.std.specs.Prelude.{Option, Some, None, is_some, if◌then◌else◌, Ok}
 use Rattle.std.specs.Int.{w32, cast_unsigned}
 use Rattle.json.specs.Json.{Json, Members}
 use Rattle.mp4_frame.specs.Bytes.{be_bytes}
@@ -14,7 +14,7 @@ use Rattle.mp4_text.specs.declared.emsg.EmsgBox.{EmsgBox}
 use Rattle.mp4_text.specs.declared.ftyp.FtypBox.{FtypBox}
 use Rattle.mp4_text.specs.declared.hdlr.HdlrBox.{HdlrBox}
 use Rattle.mp4_text.specs.declared.url.UrlBox.{UrlBox}
-use Rattle.mp4_show.specs.Metadata.{integer}
+use Rattle.mp4_show.specs.Metadata.{integer, integer_width}
 use Rattle.mp4_show.specs.declared.fields.metadata.TheConstants.{DATA}
 use Rattle.mp4_from_json.specs.Numbers.{at_path, number_taken}
 use Rattle.mp4_from_json.specs.Object.{take_out, take_one, has}
@@ -108,12 +108,6 @@ type_or_refused n =
 abbrev pub digits_taken : List ℕ → Takes (List ℕ)
 digits_taken name ms = take_one name ms >>= λ p. at_path name (hex_in p.0) >>= λ bytes. Ok (bytes, p.1)
 
--- the least of 1, 2 and 4 bytes that have room for a number
-abbrev pub integer_width : ℤ → ℕ
-integer_width z =
-    if int_le (negsuc (2 ^ 7 - 1)) z && int_le z (pos (2 ^ 7 - 1)) then 1 else
-    if int_le (negsuc (2 ^ 15 - 1)) z && int_le z (pos (2 ^ 15 - 1)) then 2 else 4
-
 abbrev pub integer_bytes : ℤ → List ℕ
 integer_bytes z = be_bytes (integer_width z) (cast_unsigned w32 z)
 
@@ -123,14 +117,38 @@ integer_in j =
     expect (int_le (negsuc (2 ^ 31 - 1)) z && int_le z (pos (2 ^ 31 - 1))) (codes "number") reasons.OutOfRange >>= λ _.
     Ok z
 
+abbrev pub integer_if : Option Json → Taking (Option ℤ)
+integer_if (Some j) = integer_in j >>= λ z. Ok (Some z)
+integer_if None = Ok None
+
+-- a number, if it is there, is the one in the bytes
+abbrev pub is_integer : Option ℤ → Option ℤ → Bool
+is_integer (Some z) (Some y) = int_le z y && int_le y z
+is_integer (Some z) None = false
+is_integer None o = true
+
+-- 1, 2 or 4 bytes
+abbrev pub wide_or_refused : Option ℤ → Taking (Unit {0})
+wide_or_refused o = expect (is_some o) (codes "number_hex") reasons.WrongLength
+
+-- the bytes are the field if they are there, and the number follows from them
+abbrev pub integer_by : Option ℤ → Option Json → Taking (List ℕ)
+integer_by number (Some j) =
+    at_path (codes "number_hex") (hex_in j) >>= λ bytes. wide_or_refused (integer bytes) >>= λ _.
+    expect (is_integer number (integer bytes)) (codes "number") reasons.Contradiction >>= λ _. Ok bytes
+integer_by (Some z) None = Ok (integer_bytes z)
+integer_by None None = refused (codes "number") reasons.Missing
+
 abbrev pub integer_taken : Takes (List ℕ)
 integer_taken ms =
-    take_one (codes "number") ms >>= λ p. integer_in p.0 >>= λ z. Ok (integer_bytes z, p.1)
+    take_out (codes "number") ms >>= λ p. take_out (codes "number_hex") p.1 >>= λ q. integer_if p.0 >>= λ number.
+    integer_by number q.0 >>= λ bytes. Ok (bytes, q.1)
 
--- a text, a number, or bytes; the bytes of a text may stand beside it, and those of a number instead of it
+-- a text, a number, or bytes; the bytes of a text or a number may stand beside it, and bytes that are no number of 1, 2
+-- or 4 bytes instead of it
 abbrev pub value_taken : DataType → Takes (List ℕ)
 value_taken types.Binary ms = digits_taken (codes "data_bytes") ms
-value_taken types.Text ms = text_taken (codes "text") false (codes "data_bytes") ms
+value_taken types.Text ms = text_taken (codes "text") false (codes "text_hex") ms
 value_taken types.Image ms = digits_taken (codes "data_bytes") ms
 value_taken types.TempoCpil ms =
     if has (codes "data_bytes") ms then digits_taken (codes "data_bytes") ms else integer_taken ms

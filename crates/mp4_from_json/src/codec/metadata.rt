@@ -1,20 +1,24 @@
 //! The metadata value box of the codec.
 
-ghost use Rattle.std.specs.Prelude.{◌≡◌};
+ghost use Rattle.std.specs.Prelude.{◌≡◌, option_map};
+ghost use Rattle.json.specs.Value.{value_view};
+ghost use Rattle.mp4_show.specs.Metadata.{integer, integer_width};
 ghost use Rattle.mp4_show.specs.declared.fields.metadata.TheConstants.{DATA};
-ghost use Rattle.mp4_from_json.specs.CodecText.{data_box_taken, digits_taken, integer_taken, integer_width};
-ghost use Rattle.mp4_from_json.specs.CodecText.{type_or_refused, value_taken};
+ghost use Rattle.mp4_from_json.specs.CodecText.{data_box_taken, digits_taken, integer_by, integer_if, integer_in};
+ghost use Rattle.mp4_from_json.specs.CodecText.{integer_taken, is_integer, type_or_refused, value_taken};
 ghost use Rattle.mp4_from_json.specs.Object.{left};
 ghost use Rattle.mp4_from_json.specs.Taking.{TakesAs};
 
 use crate::big_endian::push_number;
 use crate::{Object, Reason, Result, TakeFields, hex_in, refuse, take_number, take_text};
+use json::Value;
+use mp4_frame::{i8_at, i16_at, i32_at};
 use mp4_media::DataType;
 use mp4_show::fields::metadata::DATA;
 use mp4_text::DataBox;
 use std::alloc::Global;
 
-/// The name of a value that is bytes, or of the bytes beside a text.
+/// The name of a value that is bytes.
 const BYTES: &str = "data_bytes";
 
 /// Returns the type with this `number`. Another number is refused.
@@ -51,18 +55,73 @@ fn integer_width(number: i32) -> usize
     }
 }
 
-/// Takes a number out, and returns its bytes.
-fn take_integer(alloc: Global, object: &mut Object<'_>) -> Result<Vec<u8>>
-    ensures { TakesAs (λ bytes. (bytes.items, left object.new)) result (integer_taken (left object.old)) }
+/// Returns the number of 32 bits that `value` is. Another value is refused.
+fn integer_in(alloc: Global, value: &Value<'_>) -> Result<i32>
+    ensures { TakesAs (λ z. z) result (integer_in (value_view value.now)) }
 {
-    let value = object.take_one(alloc, "number")?;
     let Some(number) = value.as_i64() else {
         return Err(refuse(alloc, "number", Reason::NotWhole));
     };
     if number < -(1 << 31) || number > (1 << 31) - 1 {
         return Err(refuse(alloc, "number", Reason::OutOfRange));
     }
-    let number = number as i32;
+    Ok(number as i32)
+}
+
+/// Returns the number that `value` is, if it is present.
+fn integer_if(alloc: Global, value: &Option<Value<'_>>) -> Result<Option<i32>>
+    ensures { TakesAs (λ z. z) result (integer_if (option_map value_view value.now)) }
+{
+    match value {
+        Some(value) => Ok(Some(integer_in(alloc, value)?)),
+        None => Ok(None),
+    }
+}
+
+/// Returns the signed number in 1, 2 or 4 bytes.
+fn integer_of(bytes: &[u8]) -> Option<i32>
+    ensures { result ≡ integer bytes.now }
+{
+    if bytes.len() == 1 {
+        Some(i32::from(i8_at(bytes, 0)))
+    } else if bytes.len() == 2 {
+        Some(i32::from(i16_at(bytes, 0)))
+    } else if bytes.len() == 4 {
+        Some(i32_at(bytes, 0))
+    } else {
+        None
+    }
+}
+
+/// Returns whether `number`, if it is present, is the one in the bytes.
+fn is_integer(number: Option<i32>, in_bytes: Option<i32>) -> bool
+    ensures { result ≡ is_integer number in_bytes }
+{
+    match (number, in_bytes) {
+        (Some(number), Some(other)) => number == other,
+        (Some(_), None) => false,
+        (None, _) => true,
+    }
+}
+
+/// Returns the bytes of a number: those of `hex`, from which the number follows, or as many as it needs.
+fn integer_by(alloc: Global, number: Option<i32>, hex: &Option<Value<'_>>) -> Result<Vec<u8>>
+    ensures { TakesAs (λ bytes. bytes.items) result (integer_by number (option_map value_view hex.now)) }
+{
+    if let Some(hex) = hex {
+        let bytes = hex_in(alloc, "number_hex", hex)?;
+        let in_bytes = integer_of(bytes.as_slice());
+        if in_bytes.is_none() {
+            return Err(refuse(alloc, "number_hex", Reason::WrongLength));
+        }
+        if !is_integer(number, in_bytes) {
+            return Err(refuse(alloc, "number", Reason::Contradiction));
+        }
+        return Ok(bytes);
+    }
+    let Some(number) = number else {
+        return Err(refuse(alloc, "number", Reason::Missing));
+    };
     let mut bytes = Vec::new(alloc);
     push_number(
         u64::from(number.cast_unsigned()),
@@ -72,13 +131,23 @@ fn take_integer(alloc: Global, object: &mut Object<'_>) -> Result<Vec<u8>>
     Ok(bytes)
 }
 
+/// Takes a number and its bytes out, of which one may be absent. Returns its bytes.
+fn take_integer(alloc: Global, object: &mut Object<'_>) -> Result<Vec<u8>>
+    ensures { TakesAs (λ bytes. (bytes.items, left object.new)) result (integer_taken (left object.old)) }
+{
+    let value = object.take_out(alloc, "number")?;
+    let hex = object.take_out(alloc, "number_hex")?;
+    let number = integer_if(alloc, &value)?;
+    integer_by(alloc, number, &hex)
+}
+
 /// Takes the value of a type out: a text, a number, or bytes.
 fn take_value(alloc: Global, data_type: &DataType, object: &mut Object<'_>) -> Result<Vec<u8>>
     ensures { TakesAs (λ bytes. (bytes.items, left object.new)) result (value_taken data_type.now (left object.old)) }
 {
     match data_type {
         DataType::Binary | DataType::Image => take_digits(alloc, BYTES, object),
-        DataType::Text => take_text(alloc, "text", BYTES, false, object),
+        DataType::Text => take_text(alloc, "text", "text_hex", false, object),
         DataType::TempoCpil => {
             if object.has(BYTES) {
                 take_digits(alloc, BYTES, object)

@@ -2,7 +2,7 @@
 
 ghost use Rattle.std.specs.Prelude.{◌≡◌, OnOk};
 ghost use Rattle.mp4_media.specs.DataType.{number_data_type};
-ghost use Rattle.mp4_show.specs.Metadata.{integer, shown_integer, shown_value, whole_value};
+ghost use Rattle.mp4_show.specs.Metadata.{integer, integer_width, shown_integer, shown_value, shown_width, whole_value};
 ghost use Rattle.mp4_show.specs.declared.fields.metadata.TheConstants.{DATA, EMSG};
 ghost use Rattle.mp4_shown.specs.Hands.{Hands};
 
@@ -11,8 +11,8 @@ use crate::shapes::{LossyText, Optional};
 use mp4_declared::{Full, Last, Rest, U32, U64, parts_of};
 use mp4_frame::{i8_at, i16_at, i32_at};
 use mp4_shown::{
-    FLAGS, FieldSink, Meaning, NamedShape, Result, ShowShape, VERSION, Value, View, names_of,
-    number, run, show_shape,
+    BytesName, FLAGS, FieldSink, Meaning, NamedShape, Result, ShowShape, VERSION, Value, View,
+    names_of, number, put_bytes, run, show_shape,
 };
 use mp4_stream::{DataBox, DataType, EmsgBox, Entries};
 
@@ -51,15 +51,45 @@ fn integer(bytes: &[u8]) -> Option<i64>
     }
 }
 
-/// Hands `number` to a sink, or `bytes` if there is none.
+/// Returns the least of 1, 2 and 4 bytes that have room for `number`.
+fn integer_width(number: i64) -> usize
+    ensures { result ≡ integer_width number }
+{
+    if -(1 << 7) <= number && number <= (1 << 7) - 1 {
+        1
+    } else if -(1 << 15) <= number && number <= (1 << 15) - 1 {
+        2
+    } else {
+        4
+    }
+}
+
+/// Hands the bytes of a number to a sink, unless they are `width`.
+fn put_width<K: FieldSink>(width: usize, bytes: &[u8], sink: &mut K) -> Result<()>
+    ensures { OnOk result (Hands K.trace K.after sink.old (shown_width width bytes.now) sink.new) }
+{
+    if bytes.len() == width {
+        Ok(())
+    } else {
+        sink.field("number_hex", Value::Bytes(bytes))
+    }
+}
+
+/// Hands `number` to a sink, and its bytes if they are more than it needs, or `bytes` if there is none.
 fn put_integer<K: FieldSink>(number: Option<i64>, bytes: &[u8], sink: &mut K) -> Result<()>
     ensures { OnOk result (Hands K.trace K.after sink.old (shown_integer number bytes.now) sink.new) }
 {
     match number {
         None => sink.field("data_bytes", Value::Bytes(bytes)),
-        Some(number) => sink.field("number", Value::Signed(number)),
+        Some(number) => {
+            sink.field("number", Value::Signed(number))?;
+            put_width(integer_width(number), bytes, sink)
+        }
     }
 }
+
+/// The name of a text, and that of its bytes if it isn't UTF-8.
+const TEXT: BytesName = run!("text", Text);
 
 /// A metadata value: the number of its type, and its bytes.
 pub struct MetadataValue;
@@ -89,7 +119,7 @@ impl<'a> ShowShape<(u32, &'a [u8])> for MetadataValue {
     ) -> Result<()> {
         let (data_type, bytes) = value;
         if data_type == 1 {
-            return sink.field("text", Value::Text(bytes));
+            return put_bytes(TEXT, 0, bytes, sink);
         }
         if data_type == 21 {
             return put_integer(integer(bytes), bytes, sink);
