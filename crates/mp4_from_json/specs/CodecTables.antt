@@ -1,7 +1,7 @@
 -- Tables of samples, which are made of the parts that are taken.
-use Rattle.std.specs.Prelude.{ℕ, ℤ, pos, negsuc, ◌+◌, ◌-◌, ◌^◌, ◌==◌, Bool, true, false, List, [], ◌∷◌, map, codes}
+use Rattle.std.specs.Prelude.{ℕ, ℤ, pos, negsuc, ◌+◌, ◌-◌, ◌%◌, ◌^◌, ◌==◌, Bool, true, false, List, [], ◌∷◌, map, codes}
 use Rattle.std.specs.Prelude.{Option, Some, None, if◌then◌else◌, Ok}
-use Rattle.std.specs.Int.{w16, w32, w64, cast_unsigned}
+use Rattle.std.specs.Int.{w16, w64, cast_unsigned}
 use Rattle.json.specs.Json.{Json, Members}
 use Rattle.mp4_tables.specs.Chunks.{chunks_fit, number_samples}
 use Rattle.mp4_tables.specs.declared.co64.Co64Box.{Co64Box}
@@ -137,9 +137,9 @@ abbrev pub most_edit : ℕ → ℤ
 most_edit version =
     if version == 0 then pos (2 ^ 31 - 1) else if version == 1 then pos (2 ^ 63 - 1) else pos (2 ^ 32 - 1)
 
--- a media time without its sign
+-- a media time without its sign, in 32 bits in version 0
 abbrev pub time_bits : ℕ → ℤ → ℕ
-time_bits version z = if version == 0 then cast_unsigned w32 z else cast_unsigned w64 z
+time_bits version z = if version == 0 then cast_unsigned w64 z % 2 ^ 32 else cast_unsigned w64 z
 
 abbrev pub edit_time_taken : Text → ℕ → Takes ℕ
 edit_time_taken name version ms =

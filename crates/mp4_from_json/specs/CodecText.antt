@@ -1,7 +1,7 @@
 -- Boxes of strings, data and references, which are made of the parts that are taken.
 use Rattle.std.specs.Prelude.{ℕ, ℤ, pos, negsuc, ◌-◌, ◌^◌, ◌==◌, ◌&&◌, int_le, Bool, true, false, List, codes}
 use Rattle.std.specs.Prelude.{Option, Some, None, is_some, if◌then◌else◌, Ok}
-use Rattle.std.specs.Int.{w32, cast_unsigned}
+use Rattle.std.specs.Int.{w64, cast_unsigned}
 use Rattle.json.specs.Json.{Json, Members}
 use Rattle.mp4_frame.specs.Bytes.{be_bytes}
 use Rattle.mp4_frame.specs.declared.four_cc.FourCC.{FourCC}
@@ -109,7 +109,7 @@ abbrev pub digits_taken : List ℕ → Takes (List ℕ)
 digits_taken name ms = take_one name ms >>= λ p. at_path name (hex_in p.0) >>= λ bytes. Ok (bytes, p.1)
 
 abbrev pub integer_bytes : ℤ → List ℕ
-integer_bytes z = be_bytes (integer_width z) (cast_unsigned w32 z)
+integer_bytes z = be_bytes (integer_width z) (cast_unsigned w64 z)
 
 abbrev pub integer_in : Json → Taking ℤ
 integer_in j =

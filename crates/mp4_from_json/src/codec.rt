@@ -24,7 +24,7 @@ use mp4_stream::{
 use std::alloc::Global;
 
 /// For the prover: what is taken of a box of each type.
-trait TakenByType {
+pub trait TakenByType {
     ghost taken: { CodecTaken };
 }
 

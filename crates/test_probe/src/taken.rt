@@ -4,7 +4,7 @@ use crate::push_record;
 use mp4_extra::ExtraBox;
 use mp4_from_json::{Error, Result as Taken, read_codec, read_extra};
 use mp4_shown_json::JsonSink;
-use mp4_stream::{AnyBox, BoxType, ByteCursor, WriteBox, read_boxes_as};
+use mp4_stream::{AnyBox, BoxType, ByteCursor, Mp4Box, WriteBox, read_boxes_as};
 use std::alloc::{AllocError, Global};
 use std::fmt::Debug;
 

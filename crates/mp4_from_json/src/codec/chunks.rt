@@ -4,9 +4,6 @@ ghost use Rattle.std.specs.Prelude.{◌≡◌, Ok, option_map};
 ghost use Rattle.json.specs.Value.{value_view};
 ghost use Rattle.mp4_declared.specs.OwnBox.{no_context};
 ghost use Rattle.mp4_show.specs.declared.fields.samples.TheConstants.{STSC};
-ghost use Rattle.mp4_shown.specs.Event.{Text as SeenText, seen_text, text};
-ghost use Rattle.mp4_shown.specs.Shapes.{shown_as};
-ghost use Rattle.std.proofs.Common.{refl};
 ghost use Rattle.mp4_tables.specs.Chunks.{next_sample};
 ghost use Rattle.mp4_from_json.specs.CodecTables.{agrees_with, chunk_members, chunk_taken, make_stsc, numbered_runs};
 ghost use Rattle.mp4_from_json.specs.CodecTables.{first_taken, firsts_in, runs_taken};
@@ -23,6 +20,7 @@ use crate::{
 use json::Value;
 use mp4_declared::{Context, Full, Last};
 use mp4_frame::Entries;
+use mp4_show::entries_in::EntriesIn;
 use mp4_show::fields::samples::{CHUNKS, STSC};
 use mp4_shown::{ListAs, NamedShape};
 use mp4_tables::{StscBox, StscEntry};
@@ -148,17 +146,17 @@ fn numbered_runs(alloc: Global, name: &str, runs: &[ChunkRun]) -> Result<Entries
 struct ChunkRuns;
 
 impl NamedShape for ChunkRuns {
-    type Value = Entries<u8>;
+    type Value = ((), Entries<StscEntry>);
 
     type Names = &'static str;
 
-    ghost Seen = { SeenText };
+    ghost Seen = { ⟦<EntriesIn<(), StscEntry> as NamedShape>⟧.Seen };
 
-    ghost seen = { seen_text };
+    ghost seen = { ⟦<EntriesIn<(), StscEntry> as NamedShape>⟧.seen };
 
-    ghost shown = { λ name view bytes. shown_as name.now (text bytes) };
+    ghost shown = { ⟦<EntriesIn<(), StscEntry> as NamedShape>⟧.shown };
 
-    ghost whole = { λ name view bytes s. refl };
+    ghost whole = { ⟦<EntriesIn<(), StscEntry> as NamedShape>⟧.whole };
 }
 
 impl TakeShape for ChunkRuns {

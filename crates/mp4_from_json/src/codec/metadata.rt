@@ -12,9 +12,8 @@ ghost use Rattle.mp4_from_json.specs.Taking.{TakesAs};
 use crate::big_endian::push_number;
 use crate::{Object, Reason, Result, TakeFields, hex_in, refuse, take_number, take_text};
 use json::Value;
-use mp4_frame::{i8_at, i16_at, i32_at};
 use mp4_media::DataType;
-use mp4_show::fields::metadata::DATA;
+use mp4_show::fields::metadata::{DATA, integer, integer_width};
 use mp4_text::DataBox;
 use std::alloc::Global;
 
@@ -42,21 +41,8 @@ fn take_digits(alloc: Global, name: &str, object: &mut Object<'_>) -> Result<Vec
     hex_in(alloc, name, &value)
 }
 
-/// Returns the least of 1, 2 and 4 bytes that have room for `number`.
-fn integer_width(number: i32) -> usize
-    ensures { result ≡ integer_width number }
-{
-    if -(1 << 7) <= number && number <= (1 << 7) - 1 {
-        1
-    } else if -(1 << 15) <= number && number <= (1 << 15) - 1 {
-        2
-    } else {
-        4
-    }
-}
-
 /// Returns the number of 32 bits that `value` is. Another value is refused.
-fn integer_in(alloc: Global, value: &Value<'_>) -> Result<i32>
+fn integer_in(alloc: Global, value: &Value<'_>) -> Result<i64>
     ensures { TakesAs (λ z. z) result (integer_in (value_view value.now)) }
 {
     let Some(number) = value.as_i64() else {
@@ -65,11 +51,11 @@ fn integer_in(alloc: Global, value: &Value<'_>) -> Result<i32>
     if number < -(1 << 31) || number > (1 << 31) - 1 {
         return Err(refuse(alloc, "number", Reason::OutOfRange));
     }
-    Ok(number as i32)
+    Ok(number)
 }
 
 /// Returns the number that `value` is, if it is present.
-fn integer_if(alloc: Global, value: &Option<Value<'_>>) -> Result<Option<i32>>
+fn integer_if(alloc: Global, value: &Option<Value<'_>>) -> Result<Option<i64>>
     ensures { TakesAs (λ z. z) result (integer_if (option_map value_view value.now)) }
 {
     match value {
@@ -78,23 +64,8 @@ fn integer_if(alloc: Global, value: &Option<Value<'_>>) -> Result<Option<i32>>
     }
 }
 
-/// Returns the signed number in 1, 2 or 4 bytes.
-fn integer_of(bytes: &[u8]) -> Option<i32>
-    ensures { result ≡ integer bytes.now }
-{
-    if bytes.len() == 1 {
-        Some(i32::from(i8_at(bytes, 0)))
-    } else if bytes.len() == 2 {
-        Some(i32::from(i16_at(bytes, 0)))
-    } else if bytes.len() == 4 {
-        Some(i32_at(bytes, 0))
-    } else {
-        None
-    }
-}
-
 /// Returns whether `number`, if it is present, is the one in the bytes.
-fn is_integer(number: Option<i32>, in_bytes: Option<i32>) -> bool
+fn is_integer(number: Option<i64>, in_bytes: Option<i64>) -> bool
     ensures { result ≡ is_integer number in_bytes }
 {
     match (number, in_bytes) {
@@ -105,12 +76,12 @@ fn is_integer(number: Option<i32>, in_bytes: Option<i32>) -> bool
 }
 
 /// Returns the bytes of a number: those of `hex`, from which the number follows, or as many as it needs.
-fn integer_by(alloc: Global, number: Option<i32>, hex: &Option<Value<'_>>) -> Result<Vec<u8>>
+fn integer_by(alloc: Global, number: Option<i64>, hex: &Option<Value<'_>>) -> Result<Vec<u8>>
     ensures { TakesAs (λ bytes. bytes.items) result (integer_by number (option_map value_view hex.now)) }
 {
     if let Some(hex) = hex {
         let bytes = hex_in(alloc, "number_hex", hex)?;
-        let in_bytes = integer_of(bytes.as_slice());
+        let in_bytes = integer(bytes.as_slice());
         if in_bytes.is_none() {
             return Err(refuse(alloc, "number_hex", Reason::WrongLength));
         }
@@ -123,11 +94,7 @@ fn integer_by(alloc: Global, number: Option<i32>, hex: &Option<Value<'_>>) -> Re
         return Err(refuse(alloc, "number", Reason::Missing));
     };
     let mut bytes = Vec::new(alloc);
-    push_number(
-        u64::from(number.cast_unsigned()),
-        integer_width(number),
-        &mut bytes,
-    )?;
+    push_number(number.cast_unsigned(), integer_width(number), &mut bytes)?;
     Ok(bytes)
 }
 

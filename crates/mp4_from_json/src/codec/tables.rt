@@ -272,7 +272,7 @@ fn time_bits(version: u8, time: i64) -> u64
     ensures { result ≡ time_bits version time }
 {
     if version == 0 {
-        u64::from((time as i32).cast_unsigned())
+        time.cast_unsigned() % (1 << 32)
     } else {
         time.cast_unsigned()
     }

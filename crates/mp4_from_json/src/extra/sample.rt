@@ -12,7 +12,7 @@ use mp4_extra::*;
 use std::alloc::Global;
 
 /// For the prover: what is taken of a box of each type.
-pub(crate) trait SampleTaken {
+pub trait SampleTaken {
     ghost taken: { TakenOf sample_types };
 }
 

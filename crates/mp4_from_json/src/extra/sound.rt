@@ -12,7 +12,7 @@ use mp4_extra::*;
 use std::alloc::Global;
 
 /// For the prover: what is taken of a box of each type.
-pub(crate) trait SoundTaken {
+pub trait SoundTaken {
     ghost taken: { TakenOf sound_types };
 }
 

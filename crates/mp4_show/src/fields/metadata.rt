@@ -1,6 +1,6 @@
 //! The fields of metadata and of events.
 
-ghost use Rattle.std.specs.Prelude.{◌≡◌, OnOk};
+ghost use Rattle.std.specs.Prelude.{◌≡◌, ◌≤◌, OnOk};
 ghost use Rattle.mp4_media.specs.DataType.{number_data_type};
 ghost use Rattle.mp4_show.specs.Metadata.{integer, integer_width, shown_integer, shown_value, shown_width, whole_value};
 ghost use Rattle.mp4_show.specs.declared.fields.metadata.TheConstants.{DATA, EMSG};
@@ -37,7 +37,7 @@ fn number_data_type(data_type: &DataType) -> u32
 }
 
 /// Returns the signed number in 1, 2 or 4 bytes.
-fn integer(bytes: &[u8]) -> Option<i64>
+pub fn integer(bytes: &[u8]) -> Option<i64>
     ensures { result ≡ integer bytes.now }
 {
     if bytes.len() == 1 {
@@ -52,8 +52,9 @@ fn integer(bytes: &[u8]) -> Option<i64>
 }
 
 /// Returns the least of 1, 2 and 4 bytes that have room for `number`.
-fn integer_width(number: i64) -> usize
-    ensures { result ≡ integer_width number }
+pub fn integer_width(number: i64) -> usize
+    ensures value { result ≡ integer_width number }
+    ensures few { result ≤ 4 }
 {
     if -(1 << 7) <= number && number <= (1 << 7) - 1 {
         1
