@@ -2,7 +2,7 @@
 use Rattle.std.proofs.Common.{◌≡◌, ℕ, ◌-◌, ◌^◌, Bool, true, false, List, [], ◌∷◌, ◌++◌, append_assoc}
 use Rattle.std.proofs.Common.{refl, sym, ap, ◌∙◌}
 use Rattle.std.proofs.lemmas.Slice.Eq.{bytes_eq-Decides}
-use Rattle.std.specs.Prelude.{Option, Some, None, Ok, if◌then◌else◌}
+use Rattle.std.specs.Prelude.{Option, Some, None, Ok, ◌&&◌, not, if◌then◌else◌}
 use Rattle.std.specs.Str.{bytes_eq}
 use Rattle.json.specs.Json.{Json, Members, no_members, member}
 use Rattle.json.specs.Json as json
@@ -38,6 +38,35 @@ IsOther name (other ∷ others) = (bytes_eq other name ≡ false) × IsOther nam
 abbrev pub AreOthers : List (List ℕ) → List (List ℕ) → Type 0
 AreOthers [] others = Unit {0}
 AreOthers (name ∷ names) others = IsOther name others × AreOthers names others
+
+-- the same as a test, which a box states of its names by computation
+abbrev pub is_other : List ℕ → List (List ℕ) → Bool
+is_other name [] = true
+is_other name (other ∷ others) = not (bytes_eq other name) && is_other name others
+
+abbrev pub are_others : List (List ℕ) → List (List ℕ) → Bool
+are_others [] others = true
+are_others (name ∷ names) others = is_other name others && are_others names others
+
+and_both : (a b : Bool) → (a && b) ≡ true → (a ≡ true) × (b ≡ true)
+and_both true b is = (refl, is)
+and_both false b is = absurd cc
+
+not_is : (b : Bool) → not b ≡ true → b ≡ false
+not_is true is = absurd cc
+not_is false is = refl
+
+pub is_other_by : (name : List ℕ) (others : List (List ℕ)) → is_other name others ≡ true → IsOther name others
+is_other_by name [] is = tt
+is_other_by name (other ∷ others) is =
+    let both = and_both (not (bytes_eq other name)) (is_other name others) is in
+    (not_is (bytes_eq other name) both.0, is_other_by name others both.1)
+
+pub are_others_by : (names others : List (List ℕ)) → are_others names others ≡ true → AreOthers names others
+are_others_by [] others is = tt
+are_others_by (name ∷ names) others is =
+    let both = and_both (is_other name others) (are_others names others) is in
+    (is_other_by name others both.0, are_others_by names others both.1)
 
 -- ---- the law of a shape
 

@@ -1,5 +1,5 @@
 -- Parts come back: one after the other, under a condition, in a group, and after version and flags.
-use Rattle.std.proofs.Common.{◌≡◌, ℕ, ◌<◌, ◌^◌, Bool, true, false, List, [], ◌∷◌, ◌++◌, append_assoc, append-nil}
+use Rattle.std.proofs.Common.{◌≡◌, ℕ, ◌<◌, Bool, true, false, List, [], ◌∷◌, ◌++◌, append_assoc, append-nil}
 use Rattle.std.proofs.Common.{refl, sym, ap, ◌∙◌}
 use Rattle.std.proofs.lemmas.Bool.{lt-ltb}
 use Rattle.std.proofs.lemmas.List.Concat.{flat_map-append}
@@ -214,17 +214,17 @@ four_lists : (a b c d : List Token) → a ++ (b ++ (c ++ d)) ≡ ((a ++ b) ++ c)
 four_lists a b c d = sym (append_assoc a b (c ++ d)) ∙ sym (append_assoc (a ++ b) c d)
 
 module _ {A : Type 0} (n : ℕ) (version flags : NumberName) {shown_v shown_f : ℕ → List Event}
-    {names_v names_f names : List (List ℕ)} {shown : A → List Event} {taken : Context → Takes A}
-    {Fits : Context → A → Type 0}
-    (v : ComesBack ℕ shown_v (number_taken version 8) names_v (λ k. k < 2 ^ 8))
-    (f : ComesBack ℕ shown_f (number_taken flags 24) names_f (λ k. k < 2 ^ 24))
+    {names_v names_f names : List (List ℕ)} {Fits_v Fits_f : ℕ → Type 0} {shown : A → List Event}
+    {taken : Context → Takes A} {Fits : Context → A → Type 0}
+    (v : ComesBack ℕ shown_v (number_taken version 8) names_v Fits_v)
+    (f : ComesBack ℕ shown_f (number_taken flags 24) names_f Fits_f)
     (s : (c : Context) → ComesBack A shown (taken c) names (Fits c)) (before_flags : AreOthers names_v names_f)
     (before_rest : AreOthers names_v names) (after_flags : AreOthers names_f names) where
   abbrev context : ℕ × (ℕ × A) → Context
   context x = record { version = x.0; flags = x.1.0 }
 
   abbrev pub FitsFull : ℕ × (ℕ × A) → Type 0
-  FitsFull x = (x.0 < n) × ((x.0 < 2 ^ 8) × ((x.1.0 < 2 ^ 24) × Fits (context x) x.1.1))
+  FitsFull x = (x.0 < n) × (Fits_v x.0 × (Fits_f x.1.0 × Fits (context x) x.1.1))
 
   abbrev rest_before : ℕ × (ℕ × A) → Members → Members
   rest_before x ms = (s (context x)).before x.1.1 ms
