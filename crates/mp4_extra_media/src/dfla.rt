@@ -306,7 +306,11 @@ impl DeclaredBox for Dfla {
 }
 
 /// The names of the fields.
-pub const NAMES: <DflaShape as NamedShape>::Names = names_of!(VERSION, FLAGS, list!("metadata_blocks"));
+pub const NAMES: <DflaShape as NamedShape>::Names = names_of!(
+    VERSION,
+    FLAGS,
+    list!("metadata_blocks")
+);
 
 impl HasFields for Dfla {
     ghost shown = { λ view b. ⟦<DflaShape as NamedShape>⟧.shown NAMES view (⟦<Dfla as DeclaredBox>⟧.layout.content b) };

@@ -35,7 +35,10 @@ pub struct Text {
 
 /// The content of the box: nine signed numbers. They are pairs and no longer rows, since a row has what follows its
 /// first part twice for the prover.
-pub type TextShape = (I32, (I32, (I32, (I32, (I32, (I32, (I32, (I32, Last<I32>))))))));
+pub type TextShape = (
+    I32,
+    (I32, (I32, (I32, (I32, (I32, (I32, (I32, Last<I32>))))))),
+);
 
 impl DeclaredBox for Text {
     ghost use Rattle.mp4_extra_media.specs.contracts.text.Text.{struct};

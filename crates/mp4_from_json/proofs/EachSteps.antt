@@ -26,7 +26,7 @@ module _ {X : Type 0} (taken : Json → Taking X) (name : List ℕ) where
   entry_taken i front j js whole x told here =
       moved front x (each_taken taken name (i + 1) js)
       ∙ sym (ap
-        (λ (t : Taking X). continued front (t >>= λ y. each_taken taken name (i + 1) js >>= λ xs. Ok (y ∷ xs))) here)
+      (λ (t : Taking X). continued front (t >>= λ y. each_taken taken name (i + 1) js >>= λ xs. Ok (y ∷ xs))) here)
       ∙ told
 
   pub entry_refused : (i : ℕ) (front : List X) (j : Json) (js : Items) (whole : Taking (List X)) (fault : Fault)

@@ -80,7 +80,7 @@ module _ {X : Type 0} {shown : X → List Event} {taken : Json → Taking X} {Fi
       ∙ ap (λ (ts : List Token). all_tokens (shown x) ++ ts) (each_shows xs fits.1)
       ∙ sym (append_assoc (all_tokens (shown x)) (all_tokens (flat_map shown xs)) (Token.end_array ∷ []))
       ∙ ap (λ (ts : List Token). ts ++ Token.end_array ∷ []) (sym (flat_map-append tokens_of (shown x)
-          (flat_map shown xs)))
+      (flat_map shown xs)))
 
   pub count_is : (xs : List X) → length_of (array_of (map e.value xs)) ≡ length xs
   count_is [] = refl
@@ -99,13 +99,13 @@ module _ {X : Type 0} {shown : X → List Event} {taken : Json → Taking X} {Fi
         ≡ all_tokens (shown_list (name, list_as.Entries, count) shown rows xs) ++ tokens_of_members ms
     list_shows xs ms fits =
         let inner = each_shows xs fits.1
-            ∙ ap (λ (ys : List X). all_tokens (flat_map shown ys) ++ Token.end_array ∷ []) (sym fits.0)
-            ∙ sym (flat_map-append tokens_of (flat_map shown (take rows xs)) (end_list ∷ [])) in
+        ∙ ap (λ (ys : List X). all_tokens (flat_map shown ys) ++ Token.end_array ∷ []) (sym fits.0)
+        ∙ sym (flat_map-append tokens_of (flat_map shown (take rows xs)) (end_list ∷ [])) in
         ap (λ (ts : List Token). Token.key name.now ∷ (Token.begin_array ∷ (ts ++ tokens_of_members ms))) inner
 
     list_back : (xs : List X) (ms : Members) → FitsList xs → IsAbsent name.now ms
         → entries_taken taken (name, list_as.Entries, count) (list_taken (name, list_as.Entries, count)
-          (list_before xs ms)) ≡ Ok (xs, ms)
+        (list_before xs ms)) ≡ Ok (xs, ms)
     list_back xs ms fits absent =
         rw (one_taken name.now (json.array (array_of (map e.value xs))) ms absent)
         (rw (each_back name.now 0 xs fits.1) refl)
@@ -124,7 +124,7 @@ module _ {X : Type 0} {shown : X → List Event} {taken : Json → Taking X} {Fi
 
     below_back : (limit : ℕ) (xs : List X) (ms : Members) → FitsList xs → length xs < limit → IsAbsent name.now ms
         → entries_taken taken (name, list_as.Entries, count) (list_below limit (name, list_as.Entries, count)
-          (list_before xs ms)) ≡ Ok (xs, ms)
+        (list_before xs ms)) ≡ Ok (xs, ms)
     below_back limit xs ms fits small absent =
         rw (one_taken name.now (json.array (array_of (map e.value xs))) ms absent)
         (rw (count_is xs) (rw (lt-ltb (length xs) limit small) (rw (each_back name.now 0 xs fits.1) refl)))

@@ -168,7 +168,7 @@ module _ (name : record { now : List ℕ }) (meanings : record { now : List Mean
   longer =
       not_equal (bytes_eq meaning_name name.now) (λ same.
       let e : length (name.now ++ codes "_name") ≡ length name.now =
-          ap length ((bytes_eq-Decides meaning_name name.now).0 same) in
+      ap length ((bytes_eq-Decides meaning_name name.now).0 same) in
       let l = length-append name.now (codes "_name") in omega (arith, e, l))
 
   meaning_absent : (o : Option (List ℕ)) (ms : Members) → IsAbsent name.now ms → IsAbsent name.now (text_before o ms)

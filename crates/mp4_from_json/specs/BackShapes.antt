@@ -49,7 +49,7 @@ module _ {A B : Type 0} {shown_a : A → List Event} {taken_a : Takes A} {names_
       ∙ ap (λ (ts : List Token). all_tokens (shown_a v.0) ++ ts) (b.shows v.1 ms fits.1)
       ∙ sym (append_assoc (all_tokens (shown_a v.0)) (all_tokens (shown_b v.1)) (tokens_of_members ms))
       ∙ ap (λ (ts : List Token). ts ++ tokens_of_members ms) (sym (flat_map-append tokens_of (shown_a v.0)
-          (shown_b v.1)))
+      (shown_b v.1)))
 
   pair_back : (v : A × B) (ms : Members) → Fits_a v.0 × Fits_b v.1 → AreAbsent (names_a ++ names_b) ms
       → pair_taken taken_a taken_b (a.before v.0 (b.before v.1 ms)) ≡ Ok (v, ms)
@@ -142,8 +142,8 @@ module _ {A : Type 0} {shown : A → List Event} {taken : Takes A} {names : List
       ≡ all_tokens (shown_group name (shown x)) ++ tokens_of_members ms
   group_shows name x ms fits =
       let inside = members_end (s.before x no_members)
-          ∙ ap (λ (ts : List Token). ts ++ Token.end_object ∷ [])
-          (s.shows x no_members fits ∙ append-nil (all_tokens (shown x))) in
+      ∙ ap (λ (ts : List Token). ts ++ Token.end_object ∷ [])
+      (s.shows x no_members fits ∙ append-nil (all_tokens (shown x))) in
       let all = flat_map-append tokens_of (shown x) (end_group ∷ []) in
       ap (λ (ts : List Token). Token.key name ∷ (Token.begin_object ∷ (ts ++ tokens_of_members ms)))
       (inside ∙ sym all)
@@ -152,7 +152,7 @@ module _ {A : Type 0} {shown : A → List Event} {taken : Takes A} {names : List
       → group_taken name taken (member name (json.object (s.before x no_members)) ms) ≡ Ok (x, ms)
   group_back name x ms fits absent =
       ap (λ (t : Taking (Json × Members)). t >>= λ p. members_in name p.0 >>= λ inside.
-          within name (all_of taken inside) >>= λ v. Ok (v, p.1))
+      within name (all_of taken inside) >>= λ v. Ok (v, p.1))
       (one_taken name (json.object (s.before x no_members)) ms absent)
       ∙ ap (λ (t : Taking A). within name t >>= λ v. Ok (v, ms)) (whole_back s x fits)
 
@@ -240,14 +240,14 @@ module _ {A : Type 0} (n : ℕ) (version flags : NumberName) {shown_v shown_f : 
   full_shows x ms fits =
       let rest = (s (context x)).shows x.1.1 ms fits.1.1.1 in
       let more = f.shows x.1.0 (rest_before x ms) fits.1.1.0
-          ∙ ap (λ (ts : List Token). all_tokens (shown_f x.1.0) ++ ts) rest in
+      ∙ ap (λ (ts : List Token). all_tokens (shown_f x.1.0) ++ ts) rest in
       let all = flat_map-append tokens_of (shown_v x.0 ++ shown_f x.1.0) (shown x.1.1)
-          ∙ ap (λ (ts : List Token). ts ++ all_tokens (shown x.1.1))
-          (flat_map-append tokens_of (shown_v x.0) (shown_f x.1.0)) in
+      ∙ ap (λ (ts : List Token). ts ++ all_tokens (shown x.1.1))
+      (flat_map-append tokens_of (shown_v x.0) (shown_f x.1.0)) in
       v.shows x.0 (f.before x.1.0 (rest_before x ms)) fits.1.0
       ∙ ap (λ (ts : List Token). all_tokens (shown_v x.0) ++ ts) more
       ∙ four_lists (all_tokens (shown_v x.0)) (all_tokens (shown_f x.1.0)) (all_tokens (shown x.1.1))
-          (tokens_of_members ms)
+      (tokens_of_members ms)
       ∙ ap (λ (ts : List Token). ts ++ tokens_of_members ms) (sym all)
 
   full_back : (x : ℕ × (ℕ × A)) (ms : Members) → FitsFull x → AreAbsent (names_v ++ (names_f ++ names)) ms

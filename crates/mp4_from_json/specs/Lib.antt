@@ -28,4 +28,5 @@ pub mod Back
 pub mod BackNumbers
 pub mod BackRuns
 pub mod BackLists
+pub mod BackItems
 pub mod BackShapes

@@ -70,12 +70,7 @@ fn take_sizes(alloc: Global, name: &str, bits: u8, items: &[Value<'_>]) -> Resul
 }
 
 /// Takes the bytes of `count` sizes of `bits` bits out, and the bytes after them, or all bytes.
-fn take_entries(
-    alloc: Global,
-    bits: u8,
-    count: u32,
-    object: &mut Object<'_>,
-) -> Result<Entries<u8>>
+fn take_entries(alloc: Global, bits: u8, count: u32, object: &mut Object<'_>) -> Result<Entries<u8>>
     ensures { TakesAs (λ bytes. (bytes, left object.new)) result (entries_or_bytes bits count (left object.old)) }
 {
     let (name, (padding_name, (too_few, rest_name))) = stz2::NAMES.1.1.1.1;

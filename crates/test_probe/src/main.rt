@@ -27,10 +27,10 @@
 //! 14. The structure of the trees of 9. The text is empty after a fault.
 //!
 //! With the argument `movies` the bytes of each record of the input are a file, and it gives one record of the output:
-//! the text of its movie (`movie.rt`). With the argument `json` the position is the code of a box, and the bytes are its
-//! JSON. The two records of the output have the bytes that are written of the declared box and of the codec's, or why
-//! the JSON is refused (`taken.rt`). With the argument `back` the record of the output has a line for each box in the
-//! bytes: `same`, if the JSON that is shown of the box gives the box back.
+//! the text of its movie (`movie.rt`). With the argument `json` the position is the code of a box, and the bytes are
+//! its JSON. The two records of the output have the bytes that are written of the declared box and of the codec's, or
+//! why the JSON is refused (`taken.rt`). With the argument `back` the record of the output has a line for each box in
+//! the bytes: `same`, if the JSON that is shown of the box gives the box back.
 #![tactic(auto)]
 
 mod declared;

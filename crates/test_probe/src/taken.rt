@@ -26,23 +26,13 @@ fn text_of<B: WriteBox>(
 }
 
 /// Appends a record of the declared box with the code `code` that is made of the JSON `text`.
-fn show_extra(
-    alloc: Global,
-    code: u32,
-    text: &str,
-    out: &mut Vec<u8>,
-) -> Result<(), AllocError> {
+fn show_extra(alloc: Global, code: u32, text: &str, out: &mut Vec<u8>) -> Result<(), AllocError> {
     let found = read_extra(alloc, code, text);
     push_record(&text_of(alloc, &found)?, out)
 }
 
 /// Appends a record of the codec's box with the code `code` that is made of the JSON `text`.
-fn show_codec(
-    alloc: Global,
-    code: u32,
-    text: &str,
-    out: &mut Vec<u8>,
-) -> Result<(), AllocError> {
+fn show_codec(alloc: Global, code: u32, text: &str, out: &mut Vec<u8>) -> Result<(), AllocError> {
     let found = read_codec(alloc, BoxType::from(code), text);
     push_record(&text_of(alloc, &found)?, out)
 }
@@ -129,11 +119,7 @@ fn push_extra_line(
 }
 
 /// Appends a line for each of `boxes`.
-fn push_codec_lines(
-    alloc: Global,
-    boxes: &[AnyBox],
-    lines: &mut String,
-) -> Result<(), AllocError> {
+fn push_codec_lines(alloc: Global, boxes: &[AnyBox], lines: &mut String) -> Result<(), AllocError> {
     for value in boxes {
         let text = codec_text(alloc, value)?;
         push_codec_line(alloc, value, &text, lines)?;

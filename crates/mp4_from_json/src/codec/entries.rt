@@ -8,9 +8,7 @@ ghost use Rattle.mp4_from_json.specs.CodecEntries.{make_vp09, make_vpcc, nal_tak
 ghost use Rattle.mp4_from_json.specs.Shapes.{made_of, pair_taken};
 
 use crate::small::Small;
-use crate::{
-    NO_CONTEXT, Object, Reason, Result, TakeEntry, TakeFields, TakeShape, hex_in, refuse,
-};
+use crate::{NO_CONTEXT, Object, Reason, Result, TakeEntry, TakeFields, TakeShape, hex_in, refuse};
 use json::Value;
 use mp4_declared::{Array, Context, Full, I8, Last, U8, U16, U32};
 use mp4_entries::{
@@ -46,7 +44,11 @@ type AvccTaken = (
     U8,
     U8,
     U8,
-    (Small<2>, EntriesIn<(), NalUnit>, Last<EntriesIn<(), NalUnit>>),
+    (
+        Small<2>,
+        EntriesIn<(), NalUnit>,
+        Last<EntriesIn<(), NalUnit>>,
+    ),
 );
 
 /// The box has at most 31 sequence sets and 255 picture sets.
@@ -92,13 +94,21 @@ impl TakeFields for HvcCBox {
 }
 
 /// The parts of a sample entry of AVC video.
-type Avc1Taken = (U16, U16, U16, U32, (U32, U16, U16, Last<Group<FieldsOf<AvcCBox>>>));
+type Avc1Taken = (
+    U16,
+    U16,
+    U16,
+    U32,
+    (U32, U16, U16, Last<Group<FieldsOf<AvcCBox>>>),
+);
 
 impl TakeFields for Avc1Box {
     ghost taken = { made_of make_avc1 (⟦<Avc1Taken as TakeShape>⟧.taken AVC1 no_context) };
 
     fn take(alloc: Global, object: &mut Object<'_>) -> Result<Avc1Box> {
-        let (data_reference_index, (width, (height, (horizresolution, rest)))) = Avc1Taken::take(alloc, AVC1, NO_CONTEXT, object)?;
+        let (data_reference_index, (width, (height, (horizresolution, rest)))) = Avc1Taken::take(
+            alloc, AVC1, NO_CONTEXT, object,
+        )?;
         let (vertresolution, (frame_count, (depth, (avcc, ())))) = rest;
         Ok(Avc1Box {
             data_reference_index,
@@ -114,13 +124,21 @@ impl TakeFields for Avc1Box {
 }
 
 /// The parts of a sample entry of HEVC video.
-type Hev1Taken = (U16, U16, U16, U32, (U32, U16, U16, Last<Group<FieldsOf<HvcCBox>>>));
+type Hev1Taken = (
+    U16,
+    U16,
+    U16,
+    U32,
+    (U32, U16, U16, Last<Group<FieldsOf<HvcCBox>>>),
+);
 
 impl TakeFields for Hev1Box {
     ghost taken = { made_of make_hev1 (⟦<Hev1Taken as TakeShape>⟧.taken HEV1 no_context) };
 
     fn take(alloc: Global, object: &mut Object<'_>) -> Result<Hev1Box> {
-        let (data_reference_index, (width, (height, (horizresolution, rest)))) = Hev1Taken::take(alloc, HEV1, NO_CONTEXT, object)?;
+        let (data_reference_index, (width, (height, (horizresolution, rest)))) = Hev1Taken::take(
+            alloc, HEV1, NO_CONTEXT, object,
+        )?;
         let (vertresolution, (frame_count, (depth, (hvcc, ())))) = rest;
         Ok(Hev1Box {
             data_reference_index,
@@ -150,7 +168,10 @@ impl TakeFields for VpccBox {
         let after = VpccRest::take(alloc, VPCC_REST, NO_CONTEXT, object)?;
         let (version, (flags, rest)) = front;
         let (profile, (level, (bit_depth, (chroma_subsampling, ())))) = rest;
-        let (video_full_range_flag, (color_primaries, (transfer_characteristics, (matrix_coefficients, rest)))) = after;
+        let (
+            video_full_range_flag,
+            (color_primaries, (transfer_characteristics, (matrix_coefficients, rest))),
+        ) = after;
         let (codec_initialization_data_size, ()) = rest;
         Ok(VpccBox {
             version,
@@ -219,7 +240,9 @@ impl TakeFields for RgbaColor {
     ghost taken = { made_of make_color (⟦<RgbaColorTaken as TakeShape>⟧.taken COLOR no_context) };
 
     fn take(alloc: Global, object: &mut Object<'_>) -> Result<RgbaColor> {
-        let (red, (green, (blue, (alpha, ())))) = RgbaColorTaken::take(alloc, COLOR, NO_CONTEXT, object)?;
+        let (red, (green, (blue, (alpha, ())))) = RgbaColorTaken::take(
+            alloc, COLOR, NO_CONTEXT, object,
+        )?;
         Ok(RgbaColor {
             red,
             green,
@@ -230,13 +253,22 @@ impl TakeFields for RgbaColor {
 }
 
 /// The parts of a sample entry of timed text.
-type Tx3gTaken = (U16, U32, I8, I8, (Group<FieldsOf<RgbaColor>>, Rectangle, Last<Array<12>>));
+type Tx3gTaken = (
+    U16,
+    U32,
+    I8,
+    I8,
+    (Group<FieldsOf<RgbaColor>>, Rectangle, Last<Array<12>>),
+);
 
 impl TakeFields for Tx3gBox {
     ghost taken = { made_of make_tx3g (⟦<Tx3gTaken as TakeShape>⟧.taken TX3G no_context) };
 
     fn take(alloc: Global, object: &mut Object<'_>) -> Result<Tx3gBox> {
-        let (data_reference_index, (display_flags, (horizontal_justification, (vertical_justification, rest)))) = Tx3gTaken::take(alloc, TX3G, NO_CONTEXT, object)?;
+        let (
+            data_reference_index,
+            (display_flags, (horizontal_justification, (vertical_justification, rest))),
+        ) = Tx3gTaken::take(alloc, TX3G, NO_CONTEXT, object)?;
         let (bg_color_rgba, (box_record, (style_record, ()))) = rest;
         Ok(Tx3gBox {
             data_reference_index,

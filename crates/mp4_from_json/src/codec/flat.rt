@@ -168,9 +168,6 @@ impl TakeFields for VmhdBox {
             version,
             flags,
             graphics_mode,
-            red,
-            green,
-            blue,
             op_color: RgbColor { red, green, blue },
         })
     }
@@ -184,7 +181,13 @@ impl TakeFields for TrexBox {
 
     fn take(alloc: Global, object: &mut Object<'_>) -> Result<TrexBox> {
         let (version, (flags, rest)) = TrexTaken::take(alloc, TREX, NO_CONTEXT, object)?;
-        let (track_id, (default_sample_description_index, (default_sample_duration, (default_sample_size, rest)))) = rest;
+        let (
+            track_id,
+            (
+                default_sample_description_index,
+                (default_sample_duration, (default_sample_size, rest)),
+            ),
+        ) = rest;
         let (default_sample_flags, ()) = rest;
         Ok(TrexBox {
             version,

@@ -37,7 +37,10 @@ impl TakeFields for TfhdBox {
 
     fn take(alloc: Global, object: &mut Object<'_>) -> Result<TfhdBox> {
         let (version, (flags, rest)) = TfhdTaken::take(alloc, TFHD, NO_CONTEXT, object)?;
-        let (track_id, (base_data_offset, (sample_description_index, (default_sample_duration, rest)))) = rest;
+        let (
+            track_id,
+            (base_data_offset, (sample_description_index, (default_sample_duration, rest))),
+        ) = rest;
         let (default_sample_size, (default_sample_flags, ())) = rest;
         Ok(TfhdBox {
             version,
@@ -128,10 +131,7 @@ impl TakeFields for TrunBox {
     fn take(alloc: Global, object: &mut Object<'_>) -> Result<TrunBox> {
         let names = (
             TRUN.0,
-            (
-                TRUN.1.0,
-                (TRUN.1.1.0, (TRUN.1.1.1.0, (TRUN.1.1.1.1.0, ()))),
-            ),
+            (TRUN.1.0, (TRUN.1.1.0, (TRUN.1.1.1.0, (TRUN.1.1.1.1.0, ())))),
         );
         let (version, (flags, rest)) = TrunFront::take(alloc, names, NO_CONTEXT, object)?;
         let (sample_count, (data_offset, (first_sample_flags, ()))) = rest;

@@ -12,9 +12,7 @@ ghost use Rattle.mp4_from_json.specs.Taking.{TakesAs};
 ghost use Rattle.mp4_from_json.specs.declared.error.Reason.TheVariants.{OutOfRange};
 
 use crate::small::Small;
-use crate::{
-    NO_CONTEXT, Object, Reason, Result, TakeFields, TakeShape, refuse, take_number,
-};
+use crate::{NO_CONTEXT, Object, Reason, Result, TakeFields, TakeShape, refuse, take_number};
 use mp4_declared::{Full, Last, U8, U16, U24, U32};
 use mp4_entries::{Avc1Box, Hev1Box, Tx3gBox, Vp09Box};
 use mp4_media::FixedPoint;
@@ -72,11 +70,7 @@ type ConfigTaken = (
     Small<6>,
     U8,
     U24,
-    (
-        U32,
-        U32,
-        Last<Group<FieldsOf<DecoderSpecificDescriptor>>>,
-    ),
+    (U32, U32, Last<Group<FieldsOf<DecoderSpecificDescriptor>>>),
 );
 
 /// Returns whether `number` is a direction: 0, or 2 for a stream to the server.
@@ -150,7 +144,8 @@ impl TakeFields for Mp4aBox {
     ghost taken = { made_of make_mp4a (⟦<Mp4aTaken as TakeShape>⟧.taken MP4A no_context) };
 
     fn take(alloc: Global, object: &mut Object<'_>) -> Result<Mp4aBox> {
-        let (data_reference_index, (channelcount, (samplesize, (samplerate, rest)))) = Mp4aTaken::take(alloc, MP4A, NO_CONTEXT, object)?;
+        let (data_reference_index, (channelcount, (samplesize, (samplerate, rest)))) =
+            Mp4aTaken::take(alloc, MP4A, NO_CONTEXT, object)?;
         let (esds, ()) = rest;
         Ok(Mp4aBox {
             data_reference_index,

@@ -173,8 +173,9 @@ impl TakeEntry for SttsEntry {
     ghost taken = { λ c j. entry_made make_run (⟦<DeltaTaken as TakeShape>⟧.taken DELTA c) j };
 
     fn take(alloc: Global, context: Context, value: Value<'_>) -> Result<SttsEntry> {
-        let (sample_count, (sample_delta, ())) =
-            take_members::<DeltaTaken>(alloc, DELTA, context, value)?;
+        let (sample_count, (sample_delta, ())) = take_members::<DeltaTaken>(
+            alloc, DELTA, context, value,
+        )?;
         Ok(SttsEntry {
             sample_count,
             sample_delta,
@@ -189,8 +190,9 @@ impl TakeEntry for CttsEntry {
     ghost taken = { λ c j. entry_made make_offset (⟦<OffsetTaken as TakeShape>⟧.taken OFFSET c) j };
 
     fn take(alloc: Global, context: Context, value: Value<'_>) -> Result<CttsEntry> {
-        let (sample_count, (sample_offset, ())) =
-            take_members::<OffsetTaken>(alloc, OFFSET, context, value)?;
+        let (sample_count, (sample_offset, ())) = take_members::<OffsetTaken>(
+            alloc, OFFSET, context, value,
+        )?;
         Ok(CttsEntry {
             sample_count,
             sample_offset,
@@ -308,8 +310,9 @@ impl TakeEntry for ElstEntry {
     ghost taken = { λ c j. entry_made make_edit (⟦<EditTaken as TakeShape>⟧.taken EDIT c) j };
 
     fn take(alloc: Global, context: Context, value: Value<'_>) -> Result<ElstEntry> {
-        let (segment_duration, (media_time, (media_rate, (fraction, ())))) =
-            take_members::<EditTaken>(alloc, EDIT, context, value)?;
+        let (segment_duration, (media_time, (media_rate, (fraction, ())))) = take_members::<
+            EditTaken,
+        >(alloc, EDIT, context, value)?;
         Ok(ElstEntry {
             segment_duration,
             media_time,

@@ -27,7 +27,9 @@ impl TakeFields for FtypBox {
     ghost taken = { made_of make_ftyp (⟦<FtypTaken as TakeShape>⟧.taken FTYP no_context) };
 
     fn take(alloc: Global, object: &mut Object<'_>) -> Result<FtypBox> {
-        let (major_brand, (minor_version, (compatible_brands, ()))) = FtypTaken::take(alloc, FTYP, NO_CONTEXT, object)?;
+        let (major_brand, (minor_version, (compatible_brands, ()))) = FtypTaken::take(
+            alloc, FTYP, NO_CONTEXT, object,
+        )?;
         Ok(FtypBox {
             major_brand,
             minor_version,

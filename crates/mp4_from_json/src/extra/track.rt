@@ -6,8 +6,8 @@ ghost use Rattle.mp4_extra.specs.declared.track_box.TrackType.TheVariants as typ
 ghost use Rattle.mp4_from_json.specs.Extra.{TakenOf, type_document};
 ghost use Rattle.mp4_from_json.specs.Taking.{TakesAs};
 
-use crate::{Result, TakeFields};
 use super::read_declared;
+use crate::{Result, TakeFields};
 use mp4_extra::*;
 use std::alloc::Global;
 
