@@ -499,7 +499,7 @@ class Taken(unittest.TestCase):
         ], CODEC)
 
     def test_made(self):
-        """Texts that no box is shown as: derived members are left out, numbers are rounded, bytes stand alone."""
+        """Texts that no box is shown as: without derived members, with rounded numbers, with bytes of a text."""
         def made(code, content):
             size = (8 + len(content)).to_bytes(4, "big")
             whole = size + code + content

@@ -126,7 +126,7 @@ module _ (name : record { now : List ℕ }) (meanings : record { now : List Mean
     apart = λ other n ms are absent. reserved_absent other usual n (n == usual) ms are.0 absent;
   }
 
-  -- ---- numbers with meanings: the meaning stands beside the number, under a name that is longer
+  -- ---- numbers with meanings: the meaning is a member of its own, under a longer name
 
   abbrev meaning_name : List ℕ
   meaning_name = name.now ++ codes "_name"

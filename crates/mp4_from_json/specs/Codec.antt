@@ -1,4 +1,4 @@
--- What is taken of the boxes of the codec's types.
+-- The boxes of the codec's types, as they are taken out of JSON.
 use Rattle.std.specs.Prelude.{Option, None, Ok}
 use Rattle.json.specs.Json.{Json}
 use Rattle.mp4_frame.specs.declared.box_type.BoxType.{BoxType}

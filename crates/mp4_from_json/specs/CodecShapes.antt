@@ -95,7 +95,7 @@ is_language s = bytes_eq (letters (language_code s)) s && not (without_letters (
 abbrev pub letters_taken : List ℕ → List ℕ → Taking (List ℕ)
 letters_taken name s = expect (is_language s) name reasons.OutOfRange >>= λ _. Ok s
 
--- what a code without letters is of, if that is there
+-- what a code without letters is of, if that is present
 abbrev pub kind_taken : List ℕ → ℕ → Members → Taking Members
 kind_taken name n ms =
     take_out (name ++ codes "_name") ms >>= λ p.

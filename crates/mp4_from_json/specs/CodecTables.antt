@@ -156,7 +156,7 @@ make_edit v = record {
 
 -- ---- stsc: the first sample of a run follows from the runs before it
 
--- a run, and its first sample if that is there
+-- a run, and its first sample if that is present
 abbrev pub ChunkRun : Type 0
 ChunkRun = StscEntry × Option ℕ
 
@@ -185,7 +185,7 @@ abbrev pub agrees_with : ℕ → Option ℕ → Bool
 agrees_with n (Some m) = m == n
 agrees_with n None = true
 
--- the first samples that are there are those that follow
+-- the first samples that are present are those that follow
 abbrev pub firsts_agree : List ℕ → ℕ → List StscEntry → List ChunkRun → Taking (Unit {0})
 firsts_agree name i [] runs = Ok tt
 firsts_agree name i (e ∷ es) [] = Ok tt

@@ -144,8 +144,8 @@ integer_taken ms =
     take_out (codes "number") ms >>= λ p. take_out (codes "number_hex") p.1 >>= λ q. integer_if p.0 >>= λ number.
     integer_by number q.0 >>= λ bytes. Ok (bytes, q.1)
 
--- a text, a number, or bytes; the bytes of a text or a number may stand beside it, and bytes that are no number of 1, 2
--- or 4 bytes instead of it
+-- a text, a number, or bytes; `text_hex` and `number_hex` may have the bytes of a text or a number, and `data_bytes`
+-- has any other bytes
 abbrev pub value_taken : DataType → Takes (List ℕ)
 value_taken types.Binary ms = digits_taken (codes "data_bytes") ms
 value_taken types.Text ms = text_taken (codes "text") false (codes "text_hex") ms

@@ -1,4 +1,4 @@
--- What is taken of the boxes of mp4_extra, by the catalogue of the enum that holds them.
+-- The boxes of mp4_extra, as they are taken out of JSON, by the catalogue of the enum that holds them.
 use Rattle.std.specs.Prelude.{ℕ, Option, Some, None, Ok}
 use Rattle.json.specs.Json.{Json}
 use Rattle.mp4_extra.specs.Catalogue.{Catalogue}

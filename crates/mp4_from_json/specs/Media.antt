@@ -1,4 +1,4 @@
--- What is taken of boxes about media whose names depend on their values.
+-- Boxes about media whose names depend on their values, as they are taken out of JSON.
 use Rattle.std.specs.Prelude.{ℕ, ◌+◌, ◌-◌, ◌*◌, ◌^◌, ◌==◌, ◌&&◌, ◌||◌, nat_le, nat_lt, not, Bool, List, [], ◌∷◌, ◌++◌}
 use Rattle.std.specs.Prelude.{Option, Some, None, if◌then◌else◌, Result, Ok, Err, codes, length}
 use Rattle.json.specs.Json.{Json, Members}

@@ -1,4 +1,4 @@
--- What is taken of boxes about samples whose names depend on their values.
+-- Boxes about samples whose names depend on their values, as they are taken out of JSON.
 use Rattle.std.specs.Prelude.{ℕ, ℤ, pos, negsuc, suc, ◌+◌, ◌-◌, ◌*◌, ◌/◌, ◌%◌, ◌^◌, ◌==◌, ◌&&◌, ◌||◌, nat_lt, not}
 use Rattle.std.specs.Prelude.{Bool, false, List, [], ◌∷◌, ◌++◌, Option, Some, None, if◌then◌else◌, Ok, length}
 use Rattle.std.specs.Int.{w16, cast_unsigned}

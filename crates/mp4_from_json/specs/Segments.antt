@@ -1,4 +1,4 @@
--- What is taken of boxes of segments and metadata whose names depend on their values.
+-- Boxes of segments and metadata whose names depend on their values, as they are taken out of JSON.
 use Rattle.std.specs.Prelude.{ℕ, ℤ, pos, int_le, ◌+◌, ◌-◌, ◌*◌, ◌%◌, ◌^◌, ◌==◌, ◌&&◌}
 use Rattle.std.specs.Prelude.{◌||◌, nat_le, nat_lt, not, Bool, true, false}
 use Rattle.std.specs.Prelude.{List, [], ◌∷◌, ◌++◌, Option, Some, None, if◌then◌else◌, Ok, length}

@@ -1,4 +1,4 @@
--- What is taken of a value of a shape.
+-- The values of shapes, as they are taken out of JSON.
 use Rattle.std.specs.Prelude.{ℕ, ℤ, pos, negsuc, ◌-◌, ◌^◌, ◌==◌, nat_lt, Bool, List, [], ◌∷◌, if◌then◌else◌}
 use Rattle.std.specs.Prelude.{Option, Some, None, Result, Ok, Err, slice_index}
 use Rattle.json.specs.Json.{Json, null, boolean, number, string, array, object, Members}
@@ -29,7 +29,7 @@ map_taken f taking = taking >>= λ p. Ok (f p.0, p.1)
 abbrev pub pair_taken : {A B : Type 0} → Takes A → Takes B → Takes (A × B)
 pair_taken a b ms = a ms >>= λ p. b p.1 >>= λ q. Ok ((p.0, q.0), q.1)
 
--- a part that is there under a condition
+-- a part that is present under a condition
 abbrev pub taken_if : {A : Type 0} → Bool → Takes A → Takes (Option A)
 taken_if holds taken ms = if holds then map_taken Some (taken ms) else Ok (None, ms)
 

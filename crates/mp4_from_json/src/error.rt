@@ -47,7 +47,7 @@ pub enum Reason {
     Missing,
     /// The derived member isn't what follows from its field.
     Contradiction,
-    /// The box keeps only one of the members that are here.
+    /// The box keeps only one of several members.
     NotKept,
 }
 
