@@ -1,3 +1,4 @@
+pub mod Checked
 pub mod Destination
 pub mod Heading
 pub mod Json
