@@ -181,6 +181,9 @@ def more_chunks():
         data = front() + moov(trak(stbl([3], [1]), 1, flags), trak(stbl([4], [1]), 2))
         found.append((f"a url of flags {flags}", data, [
             line(data, b"stco", SECOND + "/stco", lies("chunk 1 at offset 4, which is in no mdat"), 1)]))
+    data = front() + moov(trak(stbl([3], [1])), trak(stbl([4], [1]), 2, 0))
+    found.append(("a url of flags 0 in the second track", data, [
+        line(data, b"stco", f"{STBL}/stco", lies("chunk 1 at offset 3, which is in no mdat"))]))
     found.append(("the only url has flags 2", front() + moov(trak(stbl([3], [1]), 1, 2)), []))
     data = front() + moov(trak(stbl([3], [1]), 1, 3))
     found.append(("a url of flags 3", data, [
@@ -326,6 +329,7 @@ def lacks():
 
     media = front()
     case("no mvhd", media + box(b"moov", trak(table)), b"moov", "moov", ["mvhd"])
+    case("an mvhd in a udta", media + box(b"moov", box(b"udta", mvhd()) + trak(table)), b"moov", "moov", ["mvhd"])
     case("a compressed movie", media + box(b"moov", box(b"cmov", box(b"dcom", b"zlib"))), b"moov", "moov", None)
     case("references to movies", media + box(b"moov", box(b"rmra", b"")), b"moov", "moov", None)
     entries = stsd(visual(b"mp4v", 64, 48, b"", b""))

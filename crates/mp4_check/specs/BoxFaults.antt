@@ -17,17 +17,25 @@ use Rattle.mp4_walk.specs.declared.tree_box.TreeBox.{TreeBox}
 abbrev pub if_true : Bool → What → Option What
 if_true b w = if b then Some w else None
 
+-- the faults of a box that its siblings and the boxes in it show: it is one too many, and boxes are missing in it
+abbrev pub sibling_faults : List Part → List TreeBox → TreeBox → List TreeBox → List Value
+sibling_faults path before x after =
+    fault_at x.position path (repeated before x)
+    ++ map (λ w. record { position = x.position; path = path; what = w }) (missing x after)
+
+-- the faults of the content of a box: its sizes can't be listed, and its parameter sets are missing
+abbrev pub content_faults : List ℕ → List Part → TreeBox → List Value
+content_faults file path x =
+    fault_at x.position path (if_true (is_unlisted file x) what.Unlisted)
+    ++ fault_at x.position path (if_true (lacks_sets file x) what.WithoutSets)
+
 module _ {A : Type 0} (known : BoxType → Bool) (reading : BoxType → List ℕ → ℕ → ℕ → Reading A) (file : List ℕ) where
-  -- the faults of the first of these boxes, which has this path, after these others: it can't be read, it is one too
-  -- many, boxes are missing in it, its sizes can't be listed, its parameter sets are missing
+  -- the faults of the first of these boxes, which has this path, after these others: it can't be read, and those above
   abbrev pub box_faults : List Part → List TreeBox → List TreeBox → List Value
   box_faults path before [] = []
   box_faults path before (x ∷ after) =
       fault_at x.position path (unreadable known reading file x)
-      ++ (fault_at x.position path (repeated before x)
-      ++ (map (λ w. record { position = x.position; path = path; what = w }) (missing x after)
-      ++ (fault_at x.position path (if_true (is_unlisted file x) what.Unlisted)
-      ++ fault_at x.position path (if_true (lacks_sets file x) what.WithoutSets))))
+      ++ (sibling_faults path before x after ++ content_faults file path x)
 
   -- the faults of these boxes, after these others
   abbrev pub faults_of_boxes : List TreeBox → List TreeBox → List Value

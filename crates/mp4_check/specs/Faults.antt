@@ -3,7 +3,6 @@
 -- of a file without a movie. docs/CHECK.md lists them.
 use Rattle.std.specs.Prelude.{◌≡◌, ℕ, ◌==◌, ◌&&◌, Bool, true, false, List, [], ◌∷◌, ◌++◌, length, is_some, None, Some}
 use Rattle.std.specs.Prelude.{if◌then◌else◌}
-use Rattle.std.specs.Io.KnownBytes.{Appends}
 use Rattle.std.specs.List.{list_any}
 use Rattle.std.specs.declared.option.Option.{Option}
 use Rattle.mp4_check.specs.BoxFaults.{faults_of_boxes}
@@ -11,7 +10,7 @@ use Rattle.mp4_check.specs.FaultValues.{Value, fault_at}
 use Rattle.mp4_check.specs.FragmentFaults.{File, fragment_faults}
 use Rattle.mp4_check.specs.Headers.{movie_times}
 use Rattle.mp4_check.specs.Indexes.{index_faults}
-use Rattle.mp4_check.specs.Lines.{AreShown, told_all}
+use Rattle.mp4_check.specs.Lines.{Writes}
 use Rattle.mp4_check.specs.Media.{media_of}
 use Rattle.mp4_check.specs.Parts.{is_file}
 use Rattle.mp4_check.specs.Paths.{in_file}
@@ -58,16 +57,21 @@ abbrev pub file_of : List ℕ → List TreeBox → File
 file_of file boxes =
     record { bytes = file; boxes = boxes; media = media_of (length file) boxes; length = length file }
 
+-- the faults of the tracks of a file with these boxes, and of its movie
+abbrev pub tracks_faults : List ℕ → List TreeBox → List Value
+tracks_faults file boxes =
+    faults_of_tracks file (facts_of file boxes) [] 0 (traks boxes)
+    ++ movie_faults (facts_of file boxes) (longest_track file (traks boxes))
+
 -- the faults of a file with these boxes. Boxes with these names are read in this way, and an index in that
 abbrev pub faults_in : {A : Type 0} → (BoxType → Bool) → (BoxType → List ℕ → ℕ → ℕ → Reading A)
     → (List ℕ → ℕ → ℕ → Reading Sidx) → List ℕ → List TreeBox → List Value
 faults_in known reading reads_sidx file boxes =
     faults_of_boxes known reading file [] boxes
-    ++ (faults_of_tracks file (facts_of file boxes) [] 0 (traks boxes)
-    ++ (movie_faults (facts_of file boxes) (longest_track file (traks boxes))
+    ++ (tracks_faults file boxes
     ++ (fragment_faults (file_of file boxes)
     ++ (index_faults reads_sidx file boxes (length file)
-    ++ fault_at 0 (in_file codes.MOOV 0) (lacks_movie boxes)))))
+    ++ fault_at 0 (in_file codes.MOOV 0) (lacks_movie boxes))))
 
 -- the faults of a file
 abbrev pub faults_of : {A : Type 0} → (BoxType → Bool) → (BoxType → List ℕ → ℕ → ℕ → Reading A)
@@ -82,5 +86,4 @@ told_before any = record { any = any; failures = false; warnings = false }
 abbrev pub WritesCheck : {A : Type 0} → (BoxType → Bool) → (BoxType → List ℕ → ℕ → ℕ → Reading A)
     → (List ℕ → ℕ → ℕ → Reading Sidx) → Form → Bool → List ℕ → Option (List ℕ) → Option (List ℕ) → Told → Type 0
 WritesCheck known reading reads_sidx form any file old new told =
-    (text : List ℕ) × AreShown form any (faults_of known reading reads_sidx file) text × Appends old new text
-    × (told ≡ told_all (told_before any) (faults_of known reading reads_sidx file))
+    Writes form (told_before any) (faults_of known reading reads_sidx file) old new told

@@ -78,18 +78,22 @@ abbrev pub position_of : Option Found → ℕ
 position_of None = 0
 position_of (Some f) = f.box.position
 
-abbrev pub runs_faults : File → ℕ → ℕ → Found → Option TrafValue → List Value
-runs_faults f m n x None = []
-runs_faults f m n x (Some t) = fault_at x.box.position (in_fragment m n []) (runs_what f t t.places)
+-- the fault of the first box at these codes in a traf
+abbrev pub in_that : ℕ → ℕ → List ℕ → ℕ → Option What → List Value
+in_that m n these position w = fault_at position (in_fragment m n these) w
+
+abbrev pub runs_faults : File → ℕ → ℕ → ℕ → Option TrafValue → List Value
+runs_faults f m n position None = []
+runs_faults f m n position (Some t) = in_that m n [] position (runs_what f t t.places)
 
 abbrev pub header_faults : File → ℕ → ℕ → Option FragmentHeader → List Value
 header_faults f m n None = []
-header_faults f m n (Some h) = fault_at h.position (in_fragment m n (codes.TFHD ∷ [])) (header_what f h)
+header_faults f m n (Some h) = in_that m n (codes.TFHD ∷ []) h.position (header_what f h)
 
-abbrev pub time_faults : Times → ℕ → ℕ → Found → Option TrafValue → List Value
-time_faults times m n x None = []
-time_faults times m n x (Some t) =
-    fault_at (position_of (first_in 2 (four_cc_of codes.TFDT) x.after)) (in_fragment m n (codes.TFDT ∷ []))
+abbrev pub time_faults : Times → ℕ → ℕ → List TreeBox → Option TrafValue → List Value
+time_faults times m n boxes None = []
+time_faults times m n boxes (Some t) =
+    in_that m n (codes.TFDT ∷ []) (position_of (first_in 2 (four_cc_of codes.TFDT) boxes))
     (time_what times t.track_id t.time)
 
 -- the values of a traf, if it is whole
@@ -100,7 +104,8 @@ values_in f moof end x =
 -- the faults of traf number n of moof number m: its runs, its header and its time
 abbrev pub traf_faults : File → Times → ℕ → ℕ → Found → Option TrafValue → List Value
 traf_faults f times m n x t =
-    runs_faults f m n x t ++ (header_faults f m n (fragment_header f.bytes x.after) ++ time_faults times m n x t)
+    runs_faults f m n x.box.position t
+    ++ (header_faults f m n (fragment_header f.bytes x.after) ++ time_faults times m n x.after t)
 
 abbrev pub places_of : Option TrafValue → Option Places
 places_of t = option_and_then t (λ (v : TrafValue). v.places)

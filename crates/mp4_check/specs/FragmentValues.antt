@@ -40,11 +40,14 @@ header_at file (Some f) = header_found f.box.position (own_reading reads_tfhd fi
 abbrev pub fragment_header : List ℕ → List TreeBox → Option FragmentHeader
 fragment_header file boxes = header_at file (first_in 2 (four_cc_of codes.TFHD) boxes)
 
+abbrev pub lists_sizes : TrunBox → Bool
+lists_sizes r = nat_le r.sample_count (length r.sample_sizes)
+
 -- the traf states the sizes of all its samples: a default size, or all sizes of each run
 abbrev pub states_sizes : trafs.Value → Bool
 states_sizes t =
     is_some t.header.default_sample_size
-    || list_all (λ (r : TrunBox). nat_le r.sample_count (length r.sample_sizes)) t.runs
+    || list_all lists_sizes t.runs
 
 -- defaults that serve for a traf that states all sizes, as in a segment, whose movie is in another file
 abbrev pub no_trex : TrexBox
@@ -98,10 +101,6 @@ abbrev pub places_by : Result Piece Problem → Option Places
 places_by (Ok x) = Some (places_in (fragment_in x))
 places_by (Err _) = None
 
--- the places of the runs of a traf in the moof at a position, if they are known: the data before it end there
-abbrev pub places_at : (ℕ → Option TrexBox) → ℕ → Option ℕ → trafs.Value → Option Places
-places_at defaults moof end t = places_by (fragment_of (trex_for defaults t) moof end t)
-
 -- what the rules of fragments need of a traf: its track_ID, its time, whether its offsets count from the beginning of
 -- a file, and the places of its runs, if they are known
 pub record TrafValue : Type 0 where
@@ -110,15 +109,18 @@ pub record TrafValue : Type 0 where
   pub is_absolute : Bool
   pub places : Option Places
 
+-- the values of a traf in the moof at a position, if the data before it end there
+abbrev pub values_by : Option TrexBox → ℕ → Option ℕ → trafs.Value → TrafValue
+values_by trex moof end t = record {
+  track_id = t.header.track_id;
+  time = option_map (λ (b : TfdtBox). b.base_media_decode_time) t.time;
+  is_absolute = is_some t.header.base_data_offset;
+  places = places_by (fragment_of trex moof end t);
+}
+
 abbrev pub traf_by : (ℕ → Option TrexBox) → ℕ → Option ℕ → Result trafs.Value Problem → Option TrafValue
 traf_by defaults moof end (Err _) = None
-traf_by defaults moof end (Ok t) =
-    Some (record {
-      track_id = t.header.track_id;
-      time = option_map (λ (b : TfdtBox). b.base_media_decode_time) t.time;
-      is_absolute = is_some t.header.base_data_offset;
-      places = places_at defaults moof end t;
-    })
+traf_by defaults moof end (Ok t) = Some (values_by (trex_for defaults t) moof end t)
 
 abbrev pub traf_values : List ℕ → (ℕ → Option TrexBox) → ℕ → Option ℕ → List TreeBox → Option TrafValue
 traf_values file defaults moof end boxes = traf_by defaults moof end (traf_of file boxes)
@@ -126,11 +128,13 @@ traf_values file defaults moof end boxes = traf_by defaults moof end (traf_of fi
 abbrev pub value_of_places : RunPlaces → Places
 value_of_places p = record { runs = p.runs.items; end = p.end }
 
+abbrev pub value_of_values : TrafValues → TrafValue
+value_of_values v = record {
+  track_id = v.track_id;
+  time = v.time;
+  is_absolute = v.is_absolute;
+  places = option_map value_of_places v.places;
+}
+
 abbrev pub value_of_traf : Option TrafValues → Option TrafValue
-value_of_traf r =
-    option_map (λ (v : TrafValues). record {
-      track_id = v.track_id;
-      time = v.time;
-      is_absolute = v.is_absolute;
-      places = option_map value_of_places v.places;
-    }) r
+value_of_traf r = option_map value_of_values r

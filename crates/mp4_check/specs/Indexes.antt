@@ -1,6 +1,6 @@
 -- The segment indexes of a file (ISO/IEC 14496-12, 8.16.3). The subsegments of an index follow one another, the first
 -- at `first_offset` after the index, and each consists of whole boxes of the top level.
-use Rattle.std.specs.Prelude.{◌≡◌, ℕ, ◌+◌, ◌-◌, ◌^◌, ◌==◌, ◌&&◌, ◌||◌, Bool, min, List, [], ◌∷◌, ◌++◌, is_some}
+use Rattle.std.specs.Prelude.{◌≡◌, ℕ, ◌+◌, ◌-◌, ◌^◌, ◌<◌, nat_lt, ◌==◌, ◌&&◌, ◌||◌, Bool, min, List, [], ◌∷◌, ◌++◌, is_some}
 use Rattle.std.specs.Prelude.{Result, Ok, Err, None, Some, if◌then◌else◌}
 use Rattle.std.specs.BTreeMap.{get}
 use Rattle.std.specs.List.{list_any}
@@ -20,15 +20,16 @@ use Rattle.mp4_movie.specs.Levels.{Found, all_in, first_in}
 use Rattle.mp4_movie.specs.Reads.{own_reading}
 use Rattle.mp4_walk.specs.declared.tree_box.TreeBox.{TreeBox}
 
--- a box of the top level begins or the file ends at a position
+-- a box of the top level begins or the file ends at a position of 64 bits
 abbrev pub is_start : List TreeBox → ℕ → ℕ → Bool
 is_start boxes length position =
-    (position == length) || list_any (λ x. (x.depth == 0) && (x.position == position)) boxes
+    nat_lt position (2 ^ 64)
+    && ((position == length) || list_any (λ x. (x.depth == 0) && (x.position == position)) boxes)
 
 abbrev pub wrong_at : ℕ → ℕ → What
 wrong_at position before = what.IndexSizes before (min position (2 ^ 64 - 1))
 
--- the first position at which no box begins, after subsegments that end there or before. Positions have 64 bits
+-- the first position at which no box begins, after subsegments that end there or before
 abbrev pub first_wrong : List TreeBox → ℕ → ℕ → ℕ → List SidxEntry → Option What
 first_wrong boxes length position before [] =
     if is_start boxes length position then None else Some (wrong_at position before)
@@ -64,4 +65,4 @@ index_faults reads file boxes length =
 
 -- the stored positions are those at which boxes of the top level begin, and the end of the file
 pub record AreStarts (boxes : List TreeBox) (length : ℕ) (starts : Starts) : Type 0 where
-  pub are : (p : ℕ) → is_some (get nat_cmp starts.positions p) ≡ is_start boxes length p
+  pub are : (p : ℕ) → p < 2 ^ 64 → is_some (get nat_cmp starts.positions p) ≡ is_start boxes length p

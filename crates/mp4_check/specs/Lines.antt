@@ -2,6 +2,7 @@
 use Rattle.std.specs.Prelude.{◌≡◌, ℕ, ◌||◌, Bool, true, false, List, [], ◌∷◌, ◌++◌, codes, decimal, fold, None, Some}
 use Rattle.std.specs.Prelude.{if◌then◌else◌}
 use Rattle.std.specs.Borrow.{Bor}
+use Rattle.std.specs.Io.KnownBytes.{Appends}
 use Rattle.std.specs.declared.option.Option.{Option}
 use Rattle.json.specs.Print.{print}
 use Rattle.json.specs.Token.{Token}
@@ -39,14 +40,18 @@ IsLine (forms.Objects name) v text = ⊥
 abbrev pub text_member : List ℕ → List ℕ → List Token
 text_member name text = Token.key name ∷ Token.string text ∷ []
 
+-- the file, the position and the path
+abbrev pub place_tokens : List ℕ → Value → List ℕ → List Token
+place_tokens name v path =
+    text_member (codes "file") name
+    ++ (Token.key (codes "position") ∷ Token.number (decimal v.position) ∷ text_member (codes "path") path)
+
 -- an object: the file, the position, the path, the code, the severity and the words
 abbrev pub fault_tokens : List ℕ → Value → List ℕ → List ℕ → List Token
 fault_tokens name v path said =
-    Token.begin_object ∷ (text_member (codes "file") name
-    ++ (Token.key (codes "position") ∷ Token.number (decimal v.position) ∷ (text_member (codes "path") path
-    ++ (text_member (codes "code") (word_of (code_of v.what))
+    Token.begin_object ∷ (place_tokens name v path ++ (text_member (codes "code") (word_of (code_of v.what))
     ++ (text_member (codes "severity") (severity_word (severity_at v))
-    ++ (text_member (codes "text") said ++ Token.end_object ∷ []))))))
+    ++ (text_member (codes "text") said ++ Token.end_object ∷ []))))
 
 abbrev pub IsObject : List ℕ → Value → List ℕ → Type 0
 IsObject name v text = (path said : List ℕ) × (text ≡ json_escaped (print (fault_tokens name v path said)))
@@ -55,7 +60,7 @@ abbrev pub IsShown : Form → Value → List ℕ → Type 0
 IsShown (forms.Lines name) v text = IsLine (forms.Lines name) v text
 IsShown (forms.Objects name) v text = IsObject name.now v text
 
--- a comma follows each object except the last
+-- a comma comes before each object except the first
 abbrev pub between : Form → Bool → List ℕ
 between (forms.Lines name) any = []
 between (forms.Objects name) any = if any then codes ",\n" else []
@@ -81,3 +86,8 @@ told_after t s =
 
 abbrev pub told_all : Told → List Value → Told
 told_all t vs = fold (λ t v. told_after t (severity_at v)) t vs
+
+-- these faults are written, and no others, after what was told before, and this is told then
+abbrev pub Writes : Form → Told → List Value → Option (List ℕ) → Option (List ℕ) → Told → Type 0
+Writes form before vs old new now =
+    (text : List ℕ) × AreShown form before.any vs text × Appends old new text × (now ≡ told_all before vs)

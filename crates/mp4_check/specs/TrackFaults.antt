@@ -13,6 +13,7 @@ use Rattle.mp4_check.specs.Overlap.{chunks_overlap}
 use Rattle.mp4_check.specs.Paths.{in_file, in_track, single}
 use Rattle.mp4_check.specs.References.{is_away}
 use Rattle.mp4_check.specs.TrackTables.{ChunksValue, chunk_table, loose_chunks, sample_table, track_chunks}
+use Rattle.mp4_check.specs.TrackTables.{value_of_chunks}
 use Rattle.mp4_check.specs.declared.duration.Duration.{Duration}
 use Rattle.mp4_check.specs.declared.duration.Times.{Times}
 use Rattle.mp4_check.specs.declared.extent.Extent.{Extent}
@@ -24,8 +25,10 @@ use Rattle.mp4_check.specs.declared.headers.TrackHeader.{TrackHeader}
 use Rattle.mp4_check.specs.declared.tables.ChunkTable.{ChunkTable}
 use Rattle.mp4_check.specs.declared.tracks.Met.{Met}
 use Rattle.mp4_check.specs.declared.tracks.MovieFacts.{MovieFacts}
+use Rattle.mp4_check.specs.declared.tracks.TrackValues.{TrackValues}
 use Rattle.mp4_frame.specs.declared.codes.TheConstants as codes
 use Rattle.mp4_movie.specs.Levels.{Found, after_of}
+use Rattle.mp4_samples.specs.declared.chunks.ChunkExtent.{ChunkExtent}
 use Rattle.mp4_walk.specs.Tops.{is_whole}
 use Rattle.mp4_walk.specs.declared.tree_box.TreeBox.{TreeBox}
 
@@ -100,64 +103,104 @@ abbrev pub chunks_in : List ℕ → Option Found → ChunksValue
 chunks_in file None = no_chunks
 chunks_in file (Some f) = if is_whole f.box.state then track_chunks file f.after else loose_chunks file f.after
 
-abbrev pub chunks_of_track : List ℕ → List TreeBox → ChunksValue
-chunks_of_track file trak = chunks_in file (sample_table trak)
+abbrev pub table_position : Option Found → ℕ
+table_position None = 0
+table_position (Some f) = f.box.position
 
-abbrev pub track_fault : List ℕ → Facts → List TreeBox → TrackHeader → Option Duration
-track_fault file facts trak h =
+-- the values of a track that its rules need
+pub record TrackValue : Type 0 where
+  pub header : Option TrackHeader
+  pub times : Option Times
+  pub edits : EditTimes
+  pub away : Bool
+  pub chunks : ChunksValue
+  pub table : ℕ
+  pub chunk_table : Option ChunkTable
+
+abbrev pub track_value : List ℕ → List TreeBox → TrackValue
+track_value file trak = record {
+  header = track_header file trak;
+  times = media_times file trak;
+  edits = edits_of file trak;
+  away = is_away file trak;
+  chunks = chunks_in file (sample_table trak);
+  table = table_position (sample_table trak);
+  chunk_table = chunk_table (after_of (sample_table trak));
+}
+
+abbrev pub value_of_track : TrackValues → TrackValue
+value_of_track v = record {
+  header = v.header;
+  times = v.times;
+  edits = v.edits;
+  away = v.is_away;
+  chunks = value_of_chunks v.chunks;
+  table = v.table;
+  chunk_table = v.chunk_table;
+}
+
+abbrev pub track_fault : Facts → TrackValue → TrackHeader → Option Duration
+track_fault facts v h =
     option_and_then facts.times (λ (movie : Times). option_and_then
-    (track_duration (edits_of file trak) (chunks_of_track file trak).time_end (media_times file trak) movie.timescale)
+    (track_duration v.edits v.chunks.time_end v.times movie.timescale)
     (λ found. duration_fault h.version h.duration movie.timescale found))
 
 abbrev pub if_not : {A : Type 0} → Bool → Option A → Option A
 if_not true o = None
 if_not false o = o
 
-abbrev pub header_faults : List ℕ → Facts → List Found → ℕ → List TreeBox → Option TrackHeader → List Value
-header_faults file facts earlier number trak None = []
-header_faults file facts earlier number trak (Some h) =
-    let path = in_track number (codes.TKHD ∷ []) in
-    fault_at h.position path (id_what h (first_header file h.track_id earlier))
-    ++ fault_at h.position path
-    (if_not facts.fragmented (option_map what.TrackDuration (track_fault file facts trak h)))
+-- the fault of the first box at these codes in a track
+abbrev pub in_this : ℕ → List ℕ → ℕ → Option What → List Value
+in_this number these position w = fault_at position (in_track number these) w
 
-abbrev pub media_fault : Option ℕ → Times → Option Duration
-media_fault time_end t =
-    option_and_then time_end (λ end. duration_fault t.version t.duration t.timescale end)
+-- the faults of a header, if this is the position of the header of an earlier track with its track_ID
+abbrev pub header_faults : Facts → ℕ → TrackValue → Option ℕ → Option TrackHeader → List Value
+header_faults facts number v earlier None = []
+header_faults facts number v earlier (Some h) =
+    in_this number (codes.TKHD ∷ []) h.position (id_what h earlier)
+    ++ in_this number (codes.TKHD ∷ []) h.position
+    (if_not facts.fragmented (option_map what.TrackDuration (track_fault facts v h)))
 
-abbrev pub media_faults : ℕ → Option ℕ → Bool → Option Times → List Value
-media_faults number time_end fragmented None = []
-media_faults number time_end fragmented (Some t) =
-    fault_at t.position (in_track number (codes.MDIA ∷ codes.MDHD ∷ []))
-    (if_not fragmented (option_map what.MediaDuration (media_fault time_end t)))
+abbrev pub media_fault : Times → Option ℕ → Option Duration
+media_fault t time_end = option_and_then time_end (λ end. duration_fault t.version t.duration t.timescale end)
 
-abbrev pub table_position : Option Found → ℕ
-table_position None = 0
-table_position (Some f) = f.box.position
+abbrev pub media_faults : ℕ → Option ℕ → Option Times → List Value
+media_faults number time_end None = []
+media_faults number time_end (Some t) =
+    in_this number (codes.MDIA ∷ codes.MDHD ∷ []) t.position (option_map what.MediaDuration (media_fault t time_end))
 
-abbrev pub table_faults : ℕ → List TreeBox → Bool → List Value
-table_faults number trak disagree =
-    fault_at (table_position (sample_table trak)) (in_track number (codes.MDIA ∷ codes.MINF ∷ codes.STBL ∷ []))
-    (if disagree then Some what.Disagree else None)
+abbrev pub table_faults : ℕ → TrackValue → List Value
+table_faults number v =
+    in_this number (codes.MDIA ∷ codes.MINF ∷ codes.STBL ∷ []) v.table
+    (if v.chunks.disagree then Some what.Disagree else None)
 
-abbrev pub chunk_faults : ℕ → Facts → ChunksValue → Option ChunkTable → List Value
-chunk_faults number facts track None = []
-chunk_faults number facts track (Some t) =
-    let path = in_track number (codes.MDIA ∷ codes.MINF ∷ codes.STBL ∷ t.code ∷ []) in
-    fault_at t.position path
-    (option_map what.ChunksOutside (chunks_outside facts.media facts.length track.chunks))
-    ++ fault_at t.position path (option_map what.ChunksOverlap (chunks_overlap None 1 track.chunks))
+abbrev pub chunk_faults : List Extent → ℕ → ℕ → List ChunkExtent → ChunkTable → List Value
+chunk_faults media length number chunks t =
+    let these = codes.MDIA ∷ codes.MINF ∷ codes.STBL ∷ t.code ∷ [] in
+    in_this number these t.position (option_map what.ChunksOutside (chunks_outside media length chunks))
+    ++ in_this number these t.position (option_map what.ChunksOverlap (chunks_overlap None 1 chunks))
 
--- the faults of a track after these: its track_ID, the duration in its header, that of its media, its tables, and its
--- chunks, if they are in this file
+abbrev pub table_chunk_faults : Facts → ℕ → TrackValue → Option ChunkTable → List Value
+table_chunk_faults facts number v None = []
+table_chunk_faults facts number v (Some t) = chunk_faults facts.media facts.length number v.chunks.chunks t
+
+-- the faults of a track with these values: its track_ID, the duration in its header, that of its media, its tables, and
+-- its chunks, if they are in this file
+abbrev pub faults_by : Facts → ℕ → TrackValue → Option ℕ → List Value
+faults_by facts number v earlier =
+    header_faults facts number v earlier v.header
+    ++ ((if facts.fragmented then [] else media_faults number v.chunks.time_end v.times)
+    ++ (table_faults number v ++ (if v.away then [] else table_chunk_faults facts number v v.chunk_table)))
+
+-- the position of the header of the first of these tracks that has the track_ID of a header
+abbrev pub earlier_of : List ℕ → List Found → Option TrackHeader → Option ℕ
+earlier_of file fs None = None
+earlier_of file fs (Some h) = first_header file h.track_id fs
+
+-- the faults of a track after these
 abbrev pub track_faults : List ℕ → Facts → List Found → ℕ → List TreeBox → List Value
 track_faults file facts earlier number trak =
-    let track = chunks_of_track file trak in
-    header_faults file facts earlier number trak (track_header file trak)
-    ++ (media_faults number track.time_end facts.fragmented (media_times file trak)
-    ++ (table_faults number trak track.disagree
-    ++ (if is_away file trak then [] else
-    chunk_faults number facts track (chunk_table (after_of (sample_table trak))))))
+    faults_by facts number (track_value file trak) (earlier_of file earlier (track_header file trak))
 
 -- the faults of these tracks, of which the first has this number
 abbrev pub faults_of_tracks : List ℕ → Facts → List Found → ℕ → List Found → List Value

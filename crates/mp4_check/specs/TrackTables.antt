@@ -82,14 +82,18 @@ loose_chunks file stbl =
       disagree = false;
     }
 
-abbrev pub chunks_by : List ℕ → List TreeBox → Result (Option SampleBoxes) Problem → ChunksValue
-chunks_by file stbl (Ok (Some t)) = whole_chunks t
-chunks_by file stbl (Ok None) = loose_chunks file stbl
-chunks_by file stbl (Err _) = loose_chunks file stbl
+-- the tables, unless one is missing or has a fault
+abbrev pub readable : Result (Option SampleBoxes) Problem → Option SampleBoxes
+readable (Ok t) = t
+readable (Err _) = None
+
+abbrev pub chunks_by : List ℕ → List TreeBox → Option SampleBoxes → ChunksValue
+chunks_by file stbl (Some t) = whole_chunks t
+chunks_by file stbl None = loose_chunks file stbl
 
 -- the chunks of an `stbl`. If a table is missing, has a fault or disagrees, the first byte of each chunk
 abbrev pub track_chunks : List ℕ → List TreeBox → ChunksValue
-track_chunks file stbl = chunks_by file stbl (tables_in file stbl)
+track_chunks file stbl = chunks_by file stbl (readable (tables_in file stbl))
 
 -- the sample table of a track (8.5.1)
 abbrev pub sample_table : List TreeBox → Option Found

@@ -1,10 +1,11 @@
 //! The rules of a single box, with the boxes around it and in it.
 
-ghost use Rattle.std.specs.Prelude.{◌≡◌, [], IfOk, IfSome, List, drop, get_or, take, ◌+◌, ◌<◌, length};
+ghost use Rattle.std.specs.Prelude.{◌≡◌, ◌<◌, ◌++◌, Some, IfOk, IfSome, OnOk, List, drop, length, take};
 ghost use Rattle.std.specs.declared.option.Option.{Option};
-ghost use Rattle.mp4_check.specs.BoxFaults.{box_faults};
-ghost use Rattle.mp4_check.specs.FaultValues.{values_of};
+ghost use Rattle.mp4_check.specs.BoxFaults.{box_faults, content_faults, sibling_faults};
+ghost use Rattle.mp4_check.specs.FaultValues.{fault_at, values_of};
 ghost use Rattle.mp4_check.specs.Paths.{AreOpen, parts_of};
+ghost use Rattle.mp4_check.specs.Unreadable.{unreadable};
 ghost use Rattle.mp4_frame.specs.declared.four_cc.FourCC.{FourCC};
 
 use crate::contents::{lacks_sets, unlisted};
@@ -26,7 +27,11 @@ fn push_fault(
     what: What,
     reason: Reason,
     faults: &mut Vec<Fault>,
-) -> Result<()> {
+) -> Result<()>
+    ensures { (opened : List (List (Option FourCC))) → AreOpen opened paths.now.levels.items
+        → OnOk result (values_of faults.new.items ≡ values_of faults.old.items
+        ++ fault_at found.now.position (parts_of opened) (Some what)) }
+{
     let path = paths.path(alloc)?;
     faults.push(Fault {
         position: found.position,
@@ -46,7 +51,11 @@ fn push_siblings(
     after: &[TreeBox],
     paths: &BoxPaths,
     faults: &mut Vec<Fault>,
-) -> Result<()> {
+) -> Result<()>
+    ensures { (opened : List (List (Option FourCC))) → AreOpen opened paths.now.levels.items
+        → OnOk result (values_of faults.new.items ≡ values_of faults.old.items
+        ++ sibling_faults (parts_of opened) before.now found.now after.now) }
+{
     if let Some(what) = repeated(before, found) {
         push_fault(alloc, found, paths, what, Reason::None, faults)?;
     }
@@ -66,6 +75,10 @@ fn push_unreadable<B: Shown, S: Source>(
     paths: &BoxPaths,
     faults: &mut Vec<Fault>,
 ) -> std::result::Result<(), Failure>
+    ensures value { IfSome walk.old.bytes
+        (λ file. (opened : List (List (Option FourCC))) → AreOpen opened paths.now.levels.items
+        → OnOk result (values_of faults.new.items ≡ values_of faults.old.items
+        ++ fault_at found.now.position (parts_of opened) (unreadable B.known B.named_reading file found.now))) }
     ensures kept { walk.new ≡ walk.old }
 {
     match unreadable::<B, S>(alloc, walk, found)? {
@@ -89,6 +102,10 @@ fn push_contents<S: Source>(
     paths: &BoxPaths,
     faults: &mut Vec<Fault>,
 ) -> std::result::Result<(), Failure>
+    ensures value { IfSome walk.old.bytes
+        (λ file. (opened : List (List (Option FourCC))) → AreOpen opened paths.now.levels.items
+        → OnOk result (values_of faults.new.items ≡ values_of faults.old.items
+        ++ content_faults file (parts_of opened) found.now)) }
     ensures kept { walk.new ≡ walk.old }
 {
     if let Some(reason) = unlisted(alloc, walk, found)? {

@@ -1,10 +1,23 @@
 //! The faults of a file, in their order.
 
-ghost use Rattle.std.specs.Prelude.{◌≡◌, ◌||◌, IfOk, IfSome, OnOk, List, ℕ};
-ghost use Rattle.std.specs.Io.KnownBytes.{Appends};
-ghost use Rattle.mp4_check.specs.Faults.{WritesCheck, is_top_file, lacks_movie};
+ghost use Rattle.std.specs.Prelude.{◌≡◌, ℕ, [], ◌∷◌, Some, IfOk, IfSome, OnOk, List, length};
+ghost use Rattle.mp4_check.specs.BoxFaults.{faults_of_boxes};
+ghost use Rattle.mp4_check.specs.FaultValues.{fault_at, values_of};
+ghost use Rattle.mp4_check.specs.Faults.{WritesCheck, facts_of, file_of, is_top_file, lacks_movie, movie_in};
+ghost use Rattle.mp4_check.specs.Faults.{tracks_faults};
+ghost use Rattle.mp4_check.specs.FragmentFaults.{AreFacts, File, IsGoing, Times, faults_of_trafs, found_at};
+ghost use Rattle.mp4_check.specs.FragmentFaults.{fragment_faults, times_after, trafs_of};
+ghost use Rattle.mp4_check.specs.Indexes.{AreStarts, index_faults, index_what};
+ghost use Rattle.mp4_check.specs.Lines.{Writes};
+ghost use Rattle.mp4_check.specs.Media.{AreInOrder};
+ghost use Rattle.mp4_check.specs.Paths.{in_file, single};
+ghost use Rattle.mp4_check.specs.TrackFaults.{IsMet, faults_of_tracks, movie_faults, value_of_facts};
+ghost use Rattle.mp4_frame.specs.FourCC.{four_cc_of};
 ghost use Rattle.mp4_frame.specs.declared.codes.TheConstants as names;
+ghost use Rattle.mp4_movie.specs.Levels.{all_in};
+ghost use Rattle.mp4_movie.specs.Movies.{traks};
 ghost use Rattle.mp4_walk.specs.FileBoxes.{boxes_of};
+ghost use Rattle.mp4_walk.specs.declared.tree_box.TreeBox.{TreeBox};
 
 use crate::box_faults::box_faults;
 use crate::fault::{Fault, Reason, What};
@@ -37,7 +50,13 @@ fn write_boxes<B: Shown, S: Source, W: Write>(
     form: Form<'_>,
     told: Told,
     output: &mut Output<W>,
-) -> std::result::Result<Told, Failure> {
+) -> std::result::Result<Told, Failure>
+    ensures value { IfSome walk.old.bytes
+        (λ file. IfOk result (λ now. Writes form.entry told
+        (faults_of_boxes B.known B.named_reading file [] boxes.now)
+        (W.contents output.old.inner) (W.contents output.new.inner) now)) }
+    ensures kept { walk.new ≡ walk.old }
+{
     let mut now = told;
     let mut paths = BoxPaths::new(alloc);
     for index in 0..boxes.len() {
@@ -49,7 +68,9 @@ fn write_boxes<B: Shown, S: Source, W: Write>(
 }
 
 /// Returns the boxes after the header of the first `moov` in `boxes`, or none if there is no `moov`.
-fn movie_in(boxes: &[TreeBox]) -> &[TreeBox] {
+fn movie_in(boxes: &[TreeBox]) -> &[TreeBox]
+    ensures { result.now ≡ movie_in boxes.now }
+{
     match first_in(boxes, 0, MOOV) {
         Some(movie) => movie.after,
         None => &[],
@@ -62,7 +83,12 @@ fn movie_facts<S: Source>(
     walk: &mut BoxWalk<S>,
     boxes: &[TreeBox],
     movie: &[TreeBox],
-) -> std::result::Result<MovieFacts, Failure> {
+) -> std::result::Result<MovieFacts, Failure>
+    ensures value { IfSome walk.old.bytes
+        (λ file. movie.now ≡ movie_in boxes.now
+        → IfOk result (λ facts. value_of_facts facts ≡ facts_of file boxes.now)) }
+    ensures kept { walk.new ≡ walk.old }
+{
     let times = movie_times(alloc, walk, movie)?;
     Ok(MovieFacts {
         media: or_memory(media_of(alloc, boxes, walk.length()))?,
@@ -82,7 +108,17 @@ fn write_tracks<S: Source, W: Write>(
     form: Form<'_>,
     told: Told,
     output: &mut Output<W>,
-) -> std::result::Result<Told, Failure> {
+) -> std::result::Result<Told, Failure>
+    requires { AreInOrder 0 facts.now.media.extents.items }
+    ensures value { IfSome walk.old.bytes
+        (λ file. IsMet file [] met.old → IfOk result (λ now. Writes form.entry told
+        (faults_of_tracks file (value_of_facts facts.now) [] 0 (all_in 1 (four_cc_of names.TRAK) movie.now))
+        (W.contents output.old.inner) (W.contents output.new.inner) now)) }
+    ensures met { IfSome walk.old.bytes
+        (λ file. IsMet file [] met.old → OnOk result
+        (IsMet file (all_in 1 (four_cc_of names.TRAK) movie.now) met.new)) }
+    ensures kept { walk.new ≡ walk.old }
+{
     let mut now = told;
     let mut number = 0u64;
     let mut rest = movie;
@@ -96,7 +132,9 @@ fn write_tracks<S: Source, W: Write>(
 }
 
 /// Returns the path of the `mvhd` of the movie.
-fn header_path(alloc: Global) -> Result<Vec<Part>> {
+fn header_path(alloc: Global) -> Result<Vec<Part>>
+    ensures { IfOk result (λ path. path.items ≡ single names.MOOV 0 ∷ single names.MVHD 0 ∷ []) }
+{
     let mut path = in_file(alloc, MOOV, 0)?;
     path.push(Part {
         code: Some(FourCC::from(MVHD)),
@@ -106,7 +144,9 @@ fn header_path(alloc: Global) -> Result<Vec<Part>> {
 }
 
 /// Returns the fault of the header of a movie whose longest track has the duration `longest`, if it has one.
-fn movie_faults(alloc: Global, facts: &MovieFacts, longest: Option<u64>) -> Result<Vec<Fault>> {
+fn movie_faults(alloc: Global, facts: &MovieFacts, longest: Option<u64>) -> Result<Vec<Fault>>
+    ensures { IfOk result (λ faults. values_of faults.items ≡ movie_faults (value_of_facts facts.now) longest) }
+{
     let mut faults = Vec::new(alloc);
     if let (Some(times), Some(duration)) = (facts.times, movie_fault(facts, longest)) {
         faults.push(Fault {
@@ -130,7 +170,18 @@ fn write_moof<S: Source, W: Write>(
     form: Form<'_>,
     told: Told,
     output: &mut Output<W>,
-) -> std::result::Result<Told, Failure> {
+) -> std::result::Result<Told, Failure>
+    requires { AreInOrder 0 facts.now.media.extents.items }
+    ensures value { (f : File) (times : Times) → walk.old.bytes ≡ Some f.bytes → AreFacts f facts.now
+        → IsGoing times going.old.end going.old → IfOk result (λ now. Writes form.entry told
+        (faults_of_trafs f number moof.found.position (Some moof.found.position) times 0 (trafs_of (found_at moof)))
+        (W.contents output.old.inner) (W.contents output.new.inner) now) }
+    ensures going { (f : File) (times : Times) → walk.old.bytes ≡ Some f.bytes → AreFacts f facts.now
+        → IsGoing times going.old.end going.old → OnOk result (IsGoing
+        (times_after f moof.found.position (Some moof.found.position) times (trafs_of (found_at moof)))
+        going.new.end going.new) }
+    ensures kept { walk.new ≡ walk.old }
+{
     let mut now = told;
     let mut place = TrafPlace {
         moof: moof.found.position,
@@ -160,7 +211,13 @@ fn write_fragments<S: Source, W: Write>(
     form: Form<'_>,
     told: Told,
     output: &mut Output<W>,
-) -> std::result::Result<Told, Failure> {
+) -> std::result::Result<Told, Failure>
+    requires { AreInOrder 0 facts.now.media.extents.items }
+    ensures value { (f : File) → walk.old.bytes ≡ Some f.bytes → f.boxes ≡ boxes.now → AreFacts f facts.now
+        → IfOk result (λ now. Writes form.entry told (fragment_faults f)
+        (W.contents output.old.inner) (W.contents output.new.inner) now) }
+    ensures kept { walk.new ≡ walk.old }
+{
     let mut now = told;
     let mut going = Going {
         end: None,
@@ -185,7 +242,14 @@ fn index_faults<S: Source>(
     found: &TreeBox,
     number: u64,
     starts: &Starts,
-) -> std::result::Result<Vec<Fault>, Failure> {
+) -> std::result::Result<Vec<Fault>, Failure>
+    ensures value { IfSome walk.old.bytes
+        (λ file. (boxes : List TreeBox) (length : ℕ) → AreStarts boxes length starts.now
+        → IfOk result (λ faults. values_of faults.items
+        ≡ fault_at found.now.position (in_file names.SIDX number)
+        (index_what ⟦<SidxBox as ReadBox>⟧.reads file boxes length found.now))) }
+    ensures kept { walk.new ≡ walk.old }
+{
     let what = index_what(alloc, walk, found, starts)?;
     Ok(one_fault(alloc, found.position, SIDX, number, what)?)
 }
@@ -198,7 +262,9 @@ fn one_fault(
     code: u32,
     index: u64,
     what: Option<What>,
-) -> Result<Vec<Fault>> {
+) -> Result<Vec<Fault>>
+    ensures { IfOk result (λ faults. values_of faults.items ≡ fault_at position (in_file code index) what) }
+{
     let mut faults = Vec::new(alloc);
     if let Some(what) = what {
         faults.push(Fault {
@@ -220,7 +286,13 @@ fn write_indexes<S: Source, W: Write>(
     form: Form<'_>,
     told: Told,
     output: &mut Output<W>,
-) -> std::result::Result<Told, Failure> {
+) -> std::result::Result<Told, Failure>
+    ensures value { IfSome walk.old.bytes
+        (λ file. IfOk result (λ now. Writes form.entry told
+        (index_faults ⟦<SidxBox as ReadBox>⟧.reads file boxes.now (length file))
+        (W.contents output.old.inner) (W.contents output.new.inner) now)) }
+    ensures kept { walk.new ≡ walk.old }
+{
     if first_in(boxes, 0, MOOF).is_none() || first_in(boxes, 0, SIDX).is_none() {
         return Ok(told);
     }
@@ -269,7 +341,15 @@ fn write_movie<S: Source, W: Write>(
     form: Form<'_>,
     told: Told,
     output: &mut Output<W>,
-) -> std::result::Result<Told, Failure> {
+) -> std::result::Result<Told, Failure>
+    ensures value { IfSome walk.old.bytes
+        (λ file. boxes.now ≡ boxes_of file → IsMet file [] met.old → IfOk result (λ now. Writes form.entry told
+        (tracks_faults file boxes.now) (W.contents output.old.inner) (W.contents output.new.inner) now)) }
+    ensures met { IfSome walk.old.bytes
+        (λ file. boxes.now ≡ boxes_of file → IsMet file [] met.old
+        → OnOk result (IsMet file (traks boxes.now) met.new)) }
+    ensures kept { walk.new ≡ walk.old }
+{
     let movie = movie_in(boxes);
     let facts = movie_facts(alloc, walk, boxes, movie)?;
     let tracks = write_tracks(alloc, walk, movie, &facts, met, form, told, output)?;
@@ -283,7 +363,12 @@ fn file_facts<S: Source>(
     walk: &mut BoxWalk<S>,
     boxes: &[TreeBox],
     tracks: Met,
-) -> std::result::Result<FileFacts, Failure> {
+) -> std::result::Result<FileFacts, Failure>
+    ensures value { IfSome walk.old.bytes
+        (λ file. boxes.now ≡ boxes_of file → IsMet file (traks boxes.now) tracks
+        → IfOk result (AreFacts (file_of file boxes.now))) }
+    ensures kept { walk.new ≡ walk.old }
+{
     let Defaults {
         by_track: defaults,
         faults: _,

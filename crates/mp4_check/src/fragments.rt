@@ -1,9 +1,16 @@
 //! The rules of fragments.
 
-ghost use Rattle.std.specs.Prelude.{◌≡◌, IfOk, OnOk, Some};
+ghost use Rattle.std.specs.Prelude.{◌≡◌, ℕ, ◌++◌, IfOk, OnOk, Some, option_and_then};
+ghost use Rattle.std.specs.BTreeMap.{get};
+ghost use Rattle.std.specs.Ordering.{nat_cmp};
 ghost use Rattle.mp4_check.specs.FaultValues.{values_of};
-ghost use Rattle.mp4_check.specs.FragmentFaults.{AreFacts, File, IsGoing, Times, found_at, next_end, next_times};
-ghost use Rattle.mp4_check.specs.FragmentFaults.{traf_faults, values_in};
+ghost use Rattle.mp4_check.specs.FragmentFaults.{AreFacts, File, IsGoing, Times, back_from, found_at, header_faults};
+ghost use Rattle.mp4_check.specs.FragmentFaults.{in_that, is_here, next_end, next_times, position_of, runs_faults};
+ghost use Rattle.mp4_check.specs.FragmentFaults.{time_faults, time_of, traf_faults, values_in, with_time};
+ghost use Rattle.mp4_check.specs.FragmentValues.{fragment_header, value_of_traf, value_of_values};
+ghost use Rattle.mp4_frame.specs.FourCC.{four_cc_of};
+ghost use Rattle.mp4_frame.specs.declared.codes.TheConstants as names;
+ghost use Rattle.mp4_movie.specs.Levels.{first_in};
 ghost use Rattle.mp4_check.specs.Media.{AreInOrder};
 
 use crate::fault::{Fault, Reason, What};
@@ -63,7 +70,10 @@ fn push_fault(
     position: u64,
     what: What,
     faults: &mut Vec<Fault>,
-) -> Result<()> {
+) -> Result<()>
+    ensures { OnOk result (values_of faults.new.items ≡ values_of faults.old.items
+        ++ in_that place.moof_number place.number codes.now position (Some what)) }
+{
     let path = in_fragment(alloc, place.moof_number, place.number, codes)?;
     faults.push(Fault {
         position,
@@ -75,7 +85,9 @@ fn push_fault(
 }
 
 /// Returns whether the runs of the fragment with the values `values` are in this file, at known places.
-fn is_here(values: &TrafValues, facts: &FileFacts) -> bool {
+fn is_here(values: &TrafValues, facts: &FileFacts) -> bool
+    ensures { (f : File) → AreFacts f facts.now → result ≡ is_here f (value_of_values values.now) }
+{
     if values.is_absolute && !facts.has_moov {
         return false;
     }
@@ -92,6 +104,9 @@ fn run_faults(
     faults: &mut Vec<Fault>,
 ) -> Result<()>
     requires { AreInOrder 0 facts.now.media.extents.items }
+    ensures { (f : File) → AreFacts f facts.now → OnOk result (values_of faults.new.items
+        ≡ values_of faults.old.items
+        ++ runs_faults f place.moof_number place.number position (Some (value_of_values values.now))) }
 {
     let Some(places) = &values.places else {
         return Ok(());
@@ -115,7 +130,10 @@ fn header_faults(
     header: FragmentHeader,
     facts: &FileFacts,
     faults: &mut Vec<Fault>,
-) -> Result<()> {
+) -> Result<()>
+    ensures { (f : File) → AreFacts f facts.now → OnOk result (values_of faults.new.items
+        ≡ values_of faults.old.items ++ header_faults f place.moof_number place.number (Some header)) }
+{
     if !facts.has_moov || facts.tracks.headers.contains_key(&header.track_id) {
         return Ok(());
     }
@@ -124,10 +142,23 @@ fn header_faults(
 }
 
 /// Returns the fault of a fragment that starts at `time`, if the one before it of the same track starts later.
-fn time_what(time: u64, earlier: Option<u64>) -> Option<What> {
+fn time_what(time: u64, earlier: Option<u64>) -> Option<What>
+    ensures { result ≡ option_and_then earlier (back_from time) }
+{
     match earlier {
         Some(earlier) if time < earlier => Some(What::TimeBack { time, earlier }),
         _ => None,
+    }
+}
+
+/// Returns the position of the first `tfdt` in a `traf`, or 0 if there is none. `boxes` begins with the boxes inside the
+/// `traf`.
+fn time_position(boxes: &[TreeBox]) -> u64
+    ensures { result ≡ position_of (first_in 2 (four_cc_of names.TFDT) boxes.now) }
+{
+    match first_in(boxes, 2, TFDT) {
+        Some(place) => place.found.position,
+        None => 0,
     }
 }
 
@@ -140,19 +171,29 @@ fn time_faults(
     boxes: &[TreeBox],
     times: &mut BTreeMap<u32, u64>,
     faults: &mut Vec<Fault>,
-) -> Result<()> {
-    let (Some(time), Some(found)) = (values.time, first_in(boxes, 2, TFDT)) else {
+) -> Result<()>
+    ensures faults { (ts : Times) → ((id : ℕ) → get nat_cmp times.old id ≡ time_of id ts)
+        → OnOk result (values_of faults.new.items ≡ values_of faults.old.items
+        ++ time_faults ts place.moof_number place.number boxes.now (Some (value_of_values values.now))) }
+    ensures times { (ts : Times) → ((id : ℕ) → get nat_cmp times.old id ≡ time_of id ts)
+        → OnOk result ((id : ℕ) → get nat_cmp times.new id
+        ≡ time_of id (with_time ts values.now.track_id values.now.time)) }
+{
+    let Some(time) = values.time else {
         return Ok(());
     };
     if let Some(what) = time_what(time, times.get(&values.track_id).copied()) {
-        push_fault(alloc, place, &[TFDT], found.found.position, what, faults)?;
+        let position = time_position(boxes);
+        push_fault(alloc, place, &[TFDT], position, what, faults)?;
     }
     times.insert(values.track_id, time)?;
     Ok(())
 }
 
 /// Returns the end of the data of a `traf` with these values.
-fn end_of(values: &Option<TrafValues>) -> Option<u64> {
+fn end_of(values: &Option<TrafValues>) -> Option<u64>
+    ensures { result ≡ next_end (value_of_traf values.now) }
+{
     match values {
         Some(TrafValues {
             places: Some(places),
@@ -174,6 +215,14 @@ fn push_faults(
     faults: &mut Vec<Fault>,
 ) -> Result<()>
     requires { AreInOrder 0 facts.now.media.extents.items }
+    ensures faults { (f : File) (ts : Times) → AreFacts f facts.now
+        → ((id : ℕ) → get nat_cmp times.old id ≡ time_of id ts)
+        → header ≡ fragment_header f.bytes traf.after.now
+        → OnOk result (values_of faults.new.items ≡ values_of faults.old.items
+        ++ traf_faults f ts place.moof_number place.number (found_at traf) (value_of_traf values.now)) }
+    ensures times { (ts : Times) → ((id : ℕ) → get nat_cmp times.old id ≡ time_of id ts)
+        → OnOk result ((id : ℕ) → get nat_cmp times.new id
+        ≡ time_of id (next_times ts (value_of_traf values.now))) }
 {
     if let Some(values) = values {
         run_faults(alloc, place, traf.found.position, values, facts, faults)?;
@@ -195,7 +244,11 @@ fn whole_values<S: Source>(
     moof: u64,
     end: Option<u64>,
     facts: &FileFacts,
-) -> std::result::Result<Option<TrafValues>, Failure> {
+) -> std::result::Result<Option<TrafValues>, Failure>
+    ensures value { (f : File) → walk.old.bytes ≡ Some f.bytes → AreFacts f facts.now
+        → IfOk result (λ r. value_of_traf r ≡ values_in f moof end (found_at traf)) }
+    ensures kept { walk.new ≡ walk.old }
+{
     if !traf.found.is_whole() {
         return Ok(None);
     }

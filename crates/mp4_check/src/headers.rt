@@ -1,8 +1,16 @@
 //! The headers of the movie and of its tracks.
 
-ghost use Rattle.std.specs.Prelude.{◌≡◌, IfOk, IfSome};
+ghost use Rattle.std.specs.Prelude.{◌≡◌, ◌-◌, ◌^◌, min, length, Result, IfOk, IfSome};
 ghost use Rattle.mp4_check.specs.Durations.{edits_duration};
-ghost use Rattle.mp4_check.specs.Headers.{edits_of, media_times, movie_times, track_header};
+ghost use Rattle.mp4_check.specs.Headers.{edits_found, edits_of, media_found, media_times, movie_found, movie_times};
+ghost use Rattle.mp4_check.specs.Headers.{track_found, track_header};
+ghost use Rattle.mp4_flat.specs.declared.mdhd.MdhdBox.{MdhdBox};
+ghost use Rattle.mp4_flat.specs.declared.mvhd.MvhdBox.{MvhdBox};
+ghost use Rattle.mp4_flat.specs.declared.tkhd.TkhdBox.{TkhdBox};
+ghost use Rattle.mp4_frame.specs.Reading.{Fault};
+ghost use Rattle.mp4_movie.specs.Reads.{IsReadAs};
+ghost use Rattle.mp4_samples.specs.Edits.{durations_before};
+ghost use Rattle.mp4_tables.specs.declared.elst.ElstBox.{ElstBox};
 
 use crate::duration::Times;
 use mp4_flat::{MdhdBox, MvhdBox, TkhdBox};
@@ -38,7 +46,9 @@ pub enum EditTimes {
 }
 
 /// Returns the numbers of `read`, a `tkhd` at `position`.
-fn track_found(read: mp4_frame::Result<TkhdBox>, position: u64) -> Option<TrackHeader> {
+fn track_found(read: mp4_frame::Result<TkhdBox>, position: u64) -> Option<TrackHeader>
+    ensures { (r : Result TkhdBox Fault) → IsReadAs read r → result ≡ track_found position r }
+{
     match read {
         Ok(header) => Some(TrackHeader {
             position,
@@ -68,7 +78,9 @@ pub fn track_header<S: Source>(
 }
 
 /// Returns the times of `read`, an `mvhd` at `position`.
-fn movie_found(read: mp4_frame::Result<MvhdBox>, position: u64) -> Option<Times> {
+fn movie_found(read: mp4_frame::Result<MvhdBox>, position: u64) -> Option<Times>
+    ensures { (r : Result MvhdBox Fault) → IsReadAs read r → result ≡ movie_found position r }
+{
     match read {
         Ok(header) => Some(Times {
             position,
@@ -98,7 +110,9 @@ pub fn movie_times<S: Source>(
 }
 
 /// Returns the times of `read`, an `mdhd` at `position`.
-fn media_found(read: mp4_frame::Result<MdhdBox>, position: u64) -> Option<Times> {
+fn media_found(read: mp4_frame::Result<MdhdBox>, position: u64) -> Option<Times>
+    ensures { (r : Result MdhdBox Fault) → IsReadAs read r → result ≡ media_found position r }
+{
     match read {
         Ok(header) => Some(Times {
             position,
@@ -131,7 +145,9 @@ pub fn media_times<S: Source>(
 }
 
 /// Returns the sum of the durations of `edits`, or 2^64 - 1 if the sum is larger.
-fn sum_of(edits: &[ElstEntry]) -> u64 {
+fn sum_of(edits: &[ElstEntry]) -> u64
+    ensures { result ≡ min (durations_before edits.now (length edits.now)) (2 ^ 64 - 1) }
+{
     let mut total = 0u64;
     for edit in edits {
         total = total.saturating_add(edit.segment_duration);
@@ -150,7 +166,9 @@ fn edits_duration(edits: &[ElstEntry]) -> Option<u64>
 }
 
 /// Returns the duration of the edits of `read`, an `elst`.
-fn edits_found(read: mp4_frame::Result<ElstBox>) -> EditTimes {
+fn edits_found(read: mp4_frame::Result<ElstBox>) -> EditTimes
+    ensures { (r : Result ElstBox Fault) → IsReadAs read r → result ≡ edits_found r }
+{
     let Ok(list) = read else {
         return EditTimes::Unknown;
     };

@@ -1,7 +1,7 @@
 //! The rule of segment indexes.
 
-ghost use Rattle.std.specs.Prelude.{◌≡◌, ℕ, IfOk, IfSome, List};
-ghost use Rattle.mp4_check.specs.Indexes.{AreStarts, index_what, wrong_at};
+ghost use Rattle.std.specs.Prelude.{◌≡◌, ℕ, Ok, IfOk, IfSome, List};
+ghost use Rattle.mp4_check.specs.Indexes.{AreStarts, first_wrong, index_found, index_what, is_start, wrong_at};
 ghost use Rattle.mp4_walk.specs.declared.tree_box.TreeBox.{TreeBox};
 
 use crate::fault::What;
@@ -36,7 +36,10 @@ pub fn starts_of(alloc: Global, boxes: &[TreeBox], length: u64) -> Result<Starts
 }
 
 /// Returns whether a box begins or the file ends at `position`.
-fn is_start(position: u128, starts: &Starts) -> bool {
+fn is_start(position: u128, starts: &Starts) -> bool
+    ensures { (boxes : List TreeBox) (length : ℕ) → AreStarts boxes length starts.now
+        → result ≡ is_start boxes length position }
+{
     match u64::try_from(position) {
         Ok(position) => starts.positions.contains_key(&position),
         Err(_) => false,
@@ -44,7 +47,10 @@ fn is_start(position: u128, starts: &Starts) -> bool {
 }
 
 /// Returns the fault of an index with the subsegments `entries`, the first of which begins at `begin`.
-fn first_wrong(begin: u128, entries: &[SidxEntry], starts: &Starts) -> Option<What> {
+fn first_wrong(begin: u128, entries: &[SidxEntry], starts: &Starts) -> Option<What>
+    ensures { (boxes : List TreeBox) (length : ℕ) → AreStarts boxes length starts.now
+        → result ≡ first_wrong boxes length begin 0 entries.now }
+{
     let mut position = begin;
     let mut before = 0u64;
     for entry in entries {
@@ -72,7 +78,10 @@ fn wrong_at(position: u128, before: u64) -> What
 }
 
 /// Returns the fault of `sidx`, the value of `found`, if it has one. An index without subsegments has none.
-fn index_found(found: &TreeBox, sidx: &Sidx, starts: &Starts) -> Option<What> {
+fn index_found(found: &TreeBox, sidx: &Sidx, starts: &Starts) -> Option<What>
+    ensures { (boxes : List TreeBox) (length : ℕ) → AreStarts boxes length starts.now
+        → result ≡ index_found boxes length found.now (Ok sidx.now) }
+{
     if sidx.entries.is_empty() {
         return None;
     }

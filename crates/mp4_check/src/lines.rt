@@ -1,10 +1,10 @@
 //! The lines and the JSON objects of faults.
 
-ghost use Rattle.std.specs.Prelude.{◌≡◌, ℕ, ◌||◌, ◌++◌, List, string_bytes, IfOk, OnOk};
-ghost use Rattle.std.specs.Io.KnownBytes.{Appends};
-ghost use Rattle.json.specs.Token.{Token};
+ghost use Rattle.std.specs.Prelude.{◌≡◌, ℕ, [], ◌∷◌, ◌++◌, List, string_bytes, IfOk, OnOk};
 ghost use Rattle.mp4_check.specs.FaultValues.{value_of, values_of};
-ghost use Rattle.mp4_check.specs.Lines.{AreShown, IsLine, IsObject, IsShown, fault_tokens, told_after, told_all};
+ghost use Rattle.mp4_check.specs.Lines.{IsLine, IsObject, IsShown, Writes, between, fault_tokens, place_tokens};
+ghost use Rattle.mp4_check.specs.Lines.{severity_text, text_member, told_after};
+ghost use Rattle.mp4_check.specs.declared.lines.Told.{Told};
 ghost use Rattle.mp4_check.specs.declared.lines.Form.TheVariants as forms;
 ghost use Rattle.mp4_shown_json.specs.Tokens.{Puts};
 
@@ -65,7 +65,9 @@ fn path_text(alloc: Global, path: &[Part]) -> Result<String> {
 }
 
 /// Returns the front of the words of a fault.
-fn front_of(severity: Severity) -> &'static str {
+fn front_of(severity: Severity) -> &'static str
+    ensures { result.now ≡ severity_text severity }
+{
     match severity {
         Severity::Failure => "",
         Severity::Warning => "warning: ",
@@ -91,14 +93,19 @@ fn push_line(alloc: Global, name: Option<&str>, fault: &Fault, out: &mut String)
 }
 
 /// Writes the member `name` with the text `text`.
-fn put_text(name: &str, text: &str, sink: &mut JsonSink) -> Result<()> {
+fn put_text(name: &str, text: &str, sink: &mut JsonSink) -> Result<()>
+    ensures { OnOk result (Puts sink.old.out sink.new.out (text_member name.now text.now)) }
+{
     sink.out.key(name)?;
     sink.out.string(text)?;
     Ok(())
 }
 
 /// Writes the members that say where a fault is.
-fn put_place(alloc: Global, name: &str, fault: &Fault, sink: &mut JsonSink) -> Result<()> {
+fn put_place(alloc: Global, name: &str, fault: &Fault, sink: &mut JsonSink) -> Result<()>
+    ensures { OnOk result ((path : List ℕ)
+        × Puts sink.old.out sink.new.out (place_tokens name.now (value_of fault.now) path)) }
+{
     put_text("file", name, sink)?;
     sink.out.key("position")?;
     sink.out.u64(fault.position)?;
@@ -144,7 +151,9 @@ fn text_of(alloc: Global, fault: &Fault, form: Form<'_>) -> Result<Vec<u8>>
 }
 
 /// Returns the text between two faults.
-fn between(form: Form<'_>, any: bool) -> &'static str {
+fn between(form: Form<'_>, any: bool) -> &'static str
+    ensures { result.now ≡ between form.entry any }
+{
     match form {
         Form::Objects(_) if any => ",\n",
         _ => "",
@@ -169,7 +178,10 @@ fn write_fault<W: Write>(
     form: Form<'_>,
     told: Told,
     output: &mut Output<W>,
-) -> std::result::Result<Told, Failure> {
+) -> std::result::Result<Told, Failure>
+    ensures { IfOk result (λ now. Writes form.entry told (value_of fault.now ∷ [])
+        (W.contents output.old.inner) (W.contents output.new.inner) now) }
+{
     let text = or_memory(text_of(alloc, fault, form))?;
     write_all(output, between(form, told.any).as_bytes())?;
     write_all(output, &text)?;
@@ -184,9 +196,8 @@ pub fn write_all_faults<W: Write>(
     told: Told,
     output: &mut Output<W>,
 ) -> std::result::Result<Told, Failure>
-    ensures text { OnOk result ((text : List ℕ) × AreShown form.entry told.any (values_of faults.now) text
-        × Appends (W.contents output.old.inner) (W.contents output.new.inner) text) }
-    ensures told { IfOk result (λ now. now ≡ told_all told (values_of faults.now)) }
+    ensures { IfOk result (λ now. Writes form.entry told (values_of faults.now)
+        (W.contents output.old.inner) (W.contents output.new.inner) now) }
 {
     let mut now = told;
     for fault in faults {

@@ -1,6 +1,6 @@
 //! The path of a box: the boxes around it, outermost first, and the box itself.
 
-ghost use Rattle.std.specs.Prelude.{◌≡◌, ◌∷◌, [], IfOk, OnOk, List, take};
+ghost use Rattle.std.specs.Prelude.{◌≡◌, ◌∷◌, [], IfOk, OnOk, List, slice_index_or, take};
 ghost use Rattle.std.specs.declared.option.Option.{Option};
 ghost use Rattle.mp4_frame.specs.declared.four_cc.FourCC.{FourCC};
 ghost use Rattle.mp4_check.specs.Paths.{AreOpen, code_key, entered, in_file, in_fragment, in_track, IsOpen, part_of};
@@ -87,7 +87,10 @@ impl BoxPaths {
     }
 
     /// Takes the level of `depth` out, and drops all deeper levels.
-    fn take_level(&mut self, alloc: Global, depth: usize) -> OpenLevel {
+    fn take_level(&mut self, alloc: Global, depth: usize) -> OpenLevel
+        ensures { (opened : List (List (Option FourCC))) → AreOpen opened self.old.levels.items
+            → AreOpen (take depth opened) self.new.levels.items × IsOpen (slice_index_or opened depth []) result }
+    {
         self.levels.truncate(depth.saturating_add(1));
         if self.levels.len() > depth {
             if let Some(level) = self.levels.pop() {

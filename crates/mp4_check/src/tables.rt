@@ -1,9 +1,10 @@
 //! The chunks of a track, by its sample tables.
 
-ghost use Rattle.std.specs.Prelude.{◌≡◌, IfOk, IfSome};
+ghost use Rattle.std.specs.Prelude.{◌≡◌, Ok, IfOk, IfSome};
 ghost use Rattle.mp4_check.specs.TrackTables.{chunk_table, first_bytes, loose_chunks, sample_table, track_chunks};
-ghost use Rattle.mp4_check.specs.TrackTables.{value_of_chunks, whole_chunks};
+ghost use Rattle.mp4_check.specs.TrackTables.{loose_bytes, readable, value_of_chunks, whole_chunks};
 ghost use Rattle.mp4_movie.specs.Levels.{found_of};
+ghost use Rattle.mp4_movie.specs.Tables.{tables_in};
 
 use mp4_frame::codes::{CO64, MDIA, MINF, STBL, STCO};
 use mp4_io::{Failure, read_failure};
@@ -110,7 +111,9 @@ fn whole_chunks(alloc: Global, tables: &SampleBoxes) -> Result<TrackChunks, Fail
 }
 
 /// Returns the first byte of each chunk of a chunk table, if there is one.
-fn loose_bytes(alloc: Global, offsets: &Option<ChunkBox>) -> Result<Vec<ChunkExtent>, AllocError> {
+fn loose_bytes(alloc: Global, offsets: &Option<ChunkBox>) -> Result<Vec<ChunkExtent>, AllocError>
+    ensures { IfOk result (λ chunks. chunks.items ≡ loose_bytes (Ok offsets.now)) }
+{
     match offsets {
         Some(offsets) => first_bytes(alloc, offsets),
         None => Ok(Vec::new(alloc)),
@@ -145,6 +148,8 @@ fn readable_tables<S: Source>(
     walk: &mut BoxWalk<S>,
     stbl: &[TreeBox],
 ) -> Result<Option<SampleBoxes>, Failure>
+    ensures value { IfSome walk.old.bytes
+        (λ file. IfOk result (λ r. r ≡ readable (tables_in file stbl.now))) }
     ensures kept { walk.new ≡ walk.old }
 {
     match tables_in(alloc, walk, stbl) {

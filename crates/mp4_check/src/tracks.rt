@@ -1,10 +1,18 @@
 //! The rules of a track.
 
-ghost use Rattle.std.specs.Prelude.{◌≡◌, ℕ, [], ◌∷◌, ◌++◌, IfOk, IfSome, OnOk, List};
+ghost use Rattle.std.specs.Prelude.{◌≡◌, ℕ, [], ◌∷◌, ◌++◌, Some, IfOk, IfSome, OnOk, List};
+ghost use Rattle.std.specs.BTreeMap.{get};
+ghost use Rattle.std.specs.Ordering.{nat_cmp};
 ghost use Rattle.mp4_check.specs.FaultValues.{values_of};
 ghost use Rattle.mp4_check.specs.Media.{AreInOrder};
-ghost use Rattle.mp4_check.specs.TrackFaults.{IsMet, movie_fault, track_faults, value_of_facts};
-ghost use Rattle.mp4_movie.specs.Levels.{Found};
+ghost use Rattle.mp4_check.specs.TrackFaults.{IsMet, chunk_faults, chunks_in, earlier_of, faults_by, header_faults};
+ghost use Rattle.mp4_check.specs.TrackFaults.{id_what, in_this, media_fault, media_faults, movie_fault, no_chunks};
+ghost use Rattle.mp4_check.specs.TrackFaults.{table_faults, track_duration, track_fault, track_faults, track_value};
+ghost use Rattle.mp4_check.specs.TrackFaults.{value_of_facts, value_of_track};
+ghost use Rattle.mp4_check.specs.Headers.{track_header};
+ghost use Rattle.mp4_check.specs.References.{is_away};
+ghost use Rattle.mp4_check.specs.TrackTables.{value_of_chunks};
+ghost use Rattle.mp4_movie.specs.Levels.{Found, found_of};
 
 use crate::duration::{Duration, Times, converted, duration_fault, longer};
 use crate::fault::{Fault, Reason, What};
@@ -83,7 +91,10 @@ fn push_fault(
     what: What,
     reason: Reason,
     faults: &mut Vec<Fault>,
-) -> Result<()> {
+) -> Result<()>
+    ensures { OnOk result (values_of faults.new.items
+        ≡ values_of faults.old.items ++ in_this number codes.now position (Some what)) }
+{
     let path = in_track(alloc, number, codes)?;
     faults.push(Fault {
         position,
@@ -96,7 +107,9 @@ fn push_fault(
 
 /// Returns the fault of the track_ID of `header`, if it has one. `headers` has the first `tkhd` with each track_ID
 /// before it.
-fn id_what(header: TrackHeader, headers: &BTreeMap<u32, u64>) -> Option<What> {
+fn id_what(header: TrackHeader, headers: &BTreeMap<u32, u64>) -> Option<What>
+    ensures { result ≡ id_what header (get nat_cmp headers.now header.track_id) }
+{
     if header.track_id == 0 {
         return Some(What::TrackZero);
     }
@@ -110,7 +123,10 @@ fn id_what(header: TrackHeader, headers: &BTreeMap<u32, u64>) -> Option<What> {
 }
 
 /// Stores the track with the header `header` as the first one with its track_ID, unless there is one before it.
-fn keep_track(header: TrackHeader, is_away: bool, met: &mut Met) -> Result<()> {
+fn keep_track(header: TrackHeader, is_away: bool, met: &mut Met) -> Result<()>
+    ensures { (file : List ℕ) (fs : List Found) (f : Found) → track_header file f.after ≡ Some header
+        → is_away file f.after ≡ is_away → IsMet file fs met.old → OnOk result (IsMet file (fs ++ f ∷ []) met.new) }
+{
     met.longest = longer(met.longest, header.version, header.duration);
     if met.headers.contains_key(&header.track_id) {
         return Ok(());
@@ -123,7 +139,9 @@ fn keep_track(header: TrackHeader, is_away: bool, met: &mut Met) -> Result<()> {
 }
 
 /// Returns the duration of a track by its edits, or by its samples if it has no edits, in ticks of `timescale`.
-fn track_duration(values: &TrackValues, timescale: u32) -> Option<u64> {
+fn track_duration(values: &TrackValues, timescale: u32) -> Option<u64>
+    ensures { result ≡ track_duration values.now.edits values.now.chunks.time_end values.now.times timescale }
+{
     match values.edits {
         EditTimes::Known(duration) => Some(duration),
         EditTimes::Unknown => None,
@@ -137,14 +155,18 @@ fn track_duration(values: &TrackValues, timescale: u32) -> Option<u64> {
 }
 
 /// Returns the fault of the duration of a track, if it has one.
-fn track_fault(values: &TrackValues, header: TrackHeader, facts: &MovieFacts) -> Option<Duration> {
+fn track_fault(values: &TrackValues, header: TrackHeader, facts: &MovieFacts) -> Option<Duration>
+    ensures { result ≡ track_fault (value_of_facts facts.now) (value_of_track values.now) header }
+{
     let movie = facts.times?;
     let found = track_duration(values, movie.timescale)?;
     duration_fault(header.version, header.duration, movie.timescale, found)
 }
 
 /// Returns the fault of the duration of the media of a track, if it has one.
-fn media_fault(times: Times, time_end: Option<u64>) -> Option<Duration> {
+fn media_fault(times: Times, time_end: Option<u64>) -> Option<Duration>
+    ensures { result ≡ media_fault times time_end }
+{
     duration_fault(times.version, times.duration, times.timescale, time_end?)
 }
 
@@ -156,7 +178,15 @@ fn header_faults(
     facts: &MovieFacts,
     met: &mut Met,
     faults: &mut Vec<Fault>,
-) -> Result<()> {
+) -> Result<()>
+    ensures faults { (file : List ℕ) (earlier : List Found) → IsMet file earlier met.old
+        → OnOk result (values_of faults.new.items ≡ values_of faults.old.items
+        ++ header_faults (value_of_facts facts.now) number (value_of_track values.now)
+        (earlier_of file earlier values.now.header) values.now.header) }
+    ensures met { (file : List ℕ) (earlier : List Found) (f : Found) → track_header file f.after ≡ values.now.header
+        → is_away file f.after ≡ values.now.is_away → IsMet file earlier met.old
+        → OnOk result (IsMet file (earlier ++ f ∷ []) met.new) }
+{
     let Some(header) = values.header else {
         return Ok(());
     };
@@ -181,7 +211,10 @@ fn media_faults(
     number: u64,
     values: &TrackValues,
     faults: &mut Vec<Fault>,
-) -> Result<()> {
+) -> Result<()>
+    ensures { OnOk result (values_of faults.new.items ≡ values_of faults.old.items
+        ++ media_faults number values.now.chunks.time_end values.now.times) }
+{
     let Some(times) = values.times else {
         return Ok(());
     };
@@ -206,7 +239,10 @@ fn table_faults(
     number: u64,
     values: &TrackValues,
     faults: &mut Vec<Fault>,
-) -> Result<()> {
+) -> Result<()>
+    ensures { OnOk result (values_of faults.new.items ≡ values_of faults.old.items
+        ++ table_faults number (value_of_track values.now)) }
+{
     let Some(disagreement) = values.chunks.disagreement else {
         return Ok(());
     };
@@ -231,6 +267,8 @@ fn chunk_faults(
     faults: &mut Vec<Fault>,
 ) -> Result<()>
     requires { AreInOrder 0 media.now.extents.items }
+    ensures { OnOk result (values_of faults.new.items ≡ values_of faults.old.items
+        ++ chunk_faults media.now.extents.items media.now.length number chunks.now.chunks.items table) }
 {
     let codes = [MDIA, MINF, STBL, table.code];
     let position = table.position;
@@ -250,7 +288,11 @@ fn chunks_in<S: Source>(
     alloc: Global,
     walk: &mut BoxWalk<S>,
     stbl: BoxLocation<'_>,
-) -> std::result::Result<TrackChunks, Failure> {
+) -> std::result::Result<TrackChunks, Failure>
+    ensures value { IfSome walk.old.bytes
+        (λ file. IfOk result (λ r. value_of_chunks r ≡ chunks_in file (found_of (Some stbl)))) }
+    ensures kept { walk.new ≡ walk.old }
+{
     if stbl.found.is_whole() {
         track_chunks(alloc, walk, stbl.after)
     } else {
@@ -259,7 +301,9 @@ fn chunks_in<S: Source>(
 }
 
 /// Returns no chunks.
-fn no_chunks(alloc: Global) -> TrackChunks {
+fn no_chunks(alloc: Global) -> TrackChunks
+    ensures { value_of_chunks result ≡ no_chunks }
+{
     TrackChunks {
         chunks: Vec::new(alloc),
         time_end: None,
@@ -272,7 +316,11 @@ fn track_values<S: Source>(
     alloc: Global,
     walk: &mut BoxWalk<S>,
     trak: &[TreeBox],
-) -> std::result::Result<TrackValues, Failure> {
+) -> std::result::Result<TrackValues, Failure>
+    ensures value { IfSome walk.old.bytes
+        (λ file. IfOk result (λ r. value_of_track r ≡ track_value file trak.now)) }
+    ensures kept { walk.new ≡ walk.old }
+{
     let header = track_header(alloc, walk, trak)?;
     let times = media_times(alloc, walk, trak)?;
     let edits = edits_of(alloc, walk, trak)?;
@@ -309,6 +357,13 @@ fn push_faults(
     faults: &mut Vec<Fault>,
 ) -> Result<()>
     requires { AreInOrder 0 facts.now.media.extents.items }
+    ensures faults { (file : List ℕ) (earlier : List Found) → IsMet file earlier met.old
+        → OnOk result (values_of faults.new.items ≡ values_of faults.old.items
+        ++ faults_by (value_of_facts facts.now) number (value_of_track values.now)
+        (earlier_of file earlier values.now.header)) }
+    ensures met { (file : List ℕ) (earlier : List Found) (f : Found) → track_header file f.after ≡ values.now.header
+        → is_away file f.after ≡ values.now.is_away → IsMet file earlier met.old
+        → OnOk result (IsMet file (earlier ++ f ∷ []) met.new) }
 {
     header_faults(alloc, number, values, facts, met, faults)?;
     if !facts.is_fragmented {

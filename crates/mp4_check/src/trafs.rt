@@ -1,11 +1,16 @@
 //! The values of a `traf`, and the places of its runs.
 
-ghost use Rattle.std.specs.Prelude.{◌≡◌, ℕ, ◌||◌, IfOk, IfSome};
+ghost use Rattle.std.specs.Prelude.{◌≡◌, ℕ, Result, IfOk, IfSome, option_map};
 ghost use Rattle.std.specs.BTreeMap.{get};
 ghost use Rattle.std.specs.Option.{option_copied};
 ghost use Rattle.std.specs.Ordering.{nat_cmp};
-ghost use Rattle.mp4_check.specs.FragmentValues.{fragment_header, no_trex, places_at, states_sizes, value_of_places};
-ghost use Rattle.mp4_check.specs.FragmentValues.{traf_values, value_of_traf};
+ghost use Rattle.mp4_check.specs.FragmentValues.{fragment_header, fragment_in, header_found, lists_sizes, no_trex};
+ghost use Rattle.mp4_check.specs.FragmentValues.{places_by, places_in, states_sizes, traf_values, value_of_places};
+ghost use Rattle.mp4_check.specs.FragmentValues.{value_of_traf, value_of_values, values_by};
+ghost use Rattle.mp4_frame.specs.Reading.{Fault};
+ghost use Rattle.mp4_movie.specs.Fragments.{fragment_of, piece_of};
+ghost use Rattle.mp4_movie.specs.Reads.{IsReadAs};
+ghost use Rattle.mp4_tables.specs.declared.tfhd.TfhdBox.{TfhdBox};
 ghost use Rattle.mp4_movie.specs.Trafs.{value_of};
 
 use mp4_flat::TrexBox;
@@ -50,7 +55,9 @@ pub struct TrafValues {
 }
 
 /// Returns the header in `read`, a `tfhd` at `position`.
-fn header_found(read: mp4_frame::Result<TfhdBox>, position: u64) -> Option<FragmentHeader> {
+fn header_found(read: mp4_frame::Result<TfhdBox>, position: u64) -> Option<FragmentHeader>
+    ensures { (r : Result TfhdBox Fault) → IsReadAs read r → result ≡ header_found position r }
+{
     match read {
         Ok(header) => Some(FragmentHeader {
             position,
@@ -78,7 +85,9 @@ pub fn fragment_header<S: Source>(
 }
 
 /// Returns whether `run` lists the sizes of all its samples.
-fn lists_sizes(run: &TrunBox) -> bool {
+fn lists_sizes(run: &TrunBox) -> bool
+    ensures { result ≡ lists_sizes run.now }
+{
     run.sample_sizes.len() >= run.sample_count as usize
 }
 
@@ -113,7 +122,9 @@ fn no_trex() -> TrexBox
 }
 
 /// Returns the places of the runs of `fragment`.
-fn run_places(alloc: Global, fragment: &TrackFragment) -> Result<RunPlaces, Failure> {
+fn run_places(alloc: Global, fragment: &TrackFragment) -> Result<RunPlaces, Failure>
+    ensures { IfOk result (λ p. value_of_places p ≡ places_in (fragment_in (piece_of fragment.now))) }
+{
     let fragment = fragment.fragment(0);
     match fragment.run_extents(alloc) {
         Ok(runs) => Ok(RunPlaces {
@@ -132,7 +143,10 @@ fn places_at(
     moof: u64,
     trex: Option<&TrexBox>,
     end: Option<u64>,
-) -> Result<Option<RunPlaces>, Failure> {
+) -> Result<Option<RunPlaces>, Failure>
+    ensures { IfOk result (λ r. option_map value_of_places r
+        ≡ places_by (fragment_of (option_copied trex.entry) moof end (value_of traf))) }
+{
     match fragment_of(traf, moof, trex, end) {
         Ok(fragment) => Ok(Some(run_places(alloc, &fragment)?)),
         Err(MovieError::Box(_)) => Ok(None),
@@ -147,7 +161,9 @@ fn values_of(
     moof: u64,
     trex: Option<&TrexBox>,
     end: Option<u64>,
-) -> Result<TrafValues, Failure> {
+) -> Result<TrafValues, Failure>
+    ensures { IfOk result (λ r. value_of_values r ≡ values_by (option_copied trex.entry) moof end (value_of traf)) }
+{
     let track_id = traf.header.track_id;
     let is_absolute = traf.header.base_data_offset.is_some();
     let time = match &traf.time {
