@@ -64,7 +64,7 @@ runs_what f t (Some p) =
 abbrev pub header_what : File → FragmentHeader → Option What
 header_what f h =
     if has_moov f && not (is_some (first_header f.bytes h.track_id (traks f.boxes))) then Some (what.NoTrack
-        h.track_id) else None
+    h.track_id) else None
 
 abbrev pub back_from : ℕ → ℕ → Option What
 back_from time earlier = if nat_lt time earlier then Some (what.TimeBack time earlier) else None

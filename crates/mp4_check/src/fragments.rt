@@ -195,10 +195,12 @@ fn end_of(values: &Option<TrafValues>) -> Option<u64>
     ensures { result ≡ next_end (value_of_traf values.now) }
 {
     match values {
-        Some(TrafValues {
-            places: Some(places),
-            ..
-        }) => places.end,
+        Some(
+            TrafValues {
+                places: Some(places),
+                ..
+            },
+        ) => places.end,
         _ => None,
     }
 }

@@ -85,8 +85,9 @@ fn index_found(found: &TreeBox, sidx: &Sidx, starts: &Starts) -> Option<What>
     if sidx.entries.is_empty() {
         return None;
     }
-    let begin =
-        u128::from(found.position) + u128::from(found.length) + u128::from(sidx.first_offset);
+    let begin = u128::from(found.position)
+        + u128::from(found.length)
+        + u128::from(sidx.first_offset);
     first_wrong(begin, sidx.entries.as_slice(), starts)
 }
 

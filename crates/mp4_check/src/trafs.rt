@@ -16,7 +16,7 @@ ghost use Rattle.mp4_movie.specs.Trafs.{value_of};
 use mp4_flat::TrexBox;
 use mp4_frame::codes::TFHD;
 use mp4_io::{Failure, or_read, read_failure};
-use mp4_movie::{MovieError, Traf, TrackFragment, first_in, fragment_of, read_at, traf_in};
+use mp4_movie::{MovieError, TrackFragment, Traf, first_in, fragment_of, read_at, traf_in};
 use mp4_samples::RunExtent;
 use mp4_tables::{TfhdBox, TrunBox};
 use mp4_walk::{BoxWalk, Source, TreeBox};

@@ -163,12 +163,14 @@ fn push_box(code: Option<FourCC>, what: What, out: &mut String) -> Result<()> {
 /// Appends the words of a fault of a track.
 fn push_track(what: What, out: &mut String) -> Result<()> {
     match what {
-        What::TrackZero => {
-            out.push_str("track_ID 0 is no number of a track; these begin at 1")
-        }
+        What::TrackZero => { out.push_str("track_ID 0 is no number of a track; these begin at 1") }
         What::TrackTwice { track_id, earlier } => {
             push_numbered("track_ID ", u64::from(track_id), out)?;
-            push_numbered(" is that of another track too, whose tkhd is at ", earlier, out)
+            push_numbered(
+                " is that of another track too, whose tkhd is at ",
+                earlier,
+                out,
+            )
         }
         What::ChunksOutside(outside) => push_outside(outside, "chunk", out),
         What::ChunksOverlap(overlap) => push_overlap(overlap, out),
