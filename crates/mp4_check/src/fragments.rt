@@ -18,7 +18,7 @@ use crate::media::Media;
 use crate::outside::runs_outside;
 use crate::path::in_fragment;
 use crate::tracks::Met;
-use crate::trafs::{FragmentHeader, RunPlaces, TrafValues, fragment_header, traf_values};
+use crate::trafs::{FragmentHeader, TrafValues, fragment_header, traf_values};
 use mp4_content::or_memory;
 use mp4_flat::TrexBox;
 use mp4_frame::codes::{TFDT, TFHD};

@@ -57,15 +57,21 @@ impl OpenLevel {
     }
 
     /// Returns the level after one more box, with the code `code`.
-    fn with(mut self, code: Option<FourCC>) -> Result<OpenLevel>
+    fn with(self, code: Option<FourCC>) -> Result<OpenLevel>
         ensures { (codes : List (Option FourCC)) → IsOpen codes self
             → IfOk result (λ level. IsOpen (code ∷ codes) level) }
     {
+        let OpenLevel {
+            last: _,
+            mut counts,
+        } = self;
         let key = code_key(code);
-        let index = self.counts.get(&key).copied().unwrap_or(0);
-        self.counts.insert(key, index.saturating_add(1))?;
-        self.last = Part { code, index };
-        Ok(self)
+        let index = counts.get(&key).copied().unwrap_or(0);
+        counts.insert(key, index.saturating_add(1))?;
+        Ok(OpenLevel {
+            last: Part { code, index },
+            counts,
+        })
     }
 }
 

@@ -71,15 +71,21 @@ impl Met {
 
 /// The values of the boxes of a track that its rules need.
 #[derive(Debug, Drop)]
-struct TrackValues {
-    header: Option<TrackHeader>,
-    times: Option<Times>,
-    edits: EditTimes,
-    is_away: bool,
-    chunks: TrackChunks,
-    /// The position of the `stbl`, or 0 if there is none.
-    table: u64,
-    chunk_table: Option<ChunkTable>,
+pub struct TrackValues {
+    /// Its header, if that can be read.
+    pub header: Option<TrackHeader>,
+    /// The times in the header of its media, if that can be read.
+    pub times: Option<Times>,
+    /// The duration of its edits.
+    pub edits: EditTimes,
+    /// True if its media data may be in another file.
+    pub is_away: bool,
+    /// Its chunks.
+    pub chunks: TrackChunks,
+    /// The position of its `stbl`, or 0 if there is none.
+    pub table: u64,
+    /// Its chunk table, if it has one.
+    pub chunk_table: Option<ChunkTable>,
 }
 
 /// Appends the fault `what` of the box at `position`, which is the first one at `codes` in track `number`.

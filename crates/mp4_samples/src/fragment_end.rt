@@ -93,15 +93,16 @@ impl<'a> Fragment<'a> {
         ensures items { IfOk result (λ runs. runs.items ≡ extents_of self.now) }
         ensures err { IfErr result (λ e. e ≡ OutOfMemory) }
     {
-        if self.runs.len() > u32::MAX as usize {
+        let count = self.runs.len();
+        if count > u32::MAX as usize {
             return Err(Error::OutOfMemory);
         }
-        let mut extents = Vec::with_capacity(alloc, self.runs.len())?;
+        let mut extents = Vec::with_capacity(alloc, count)?;
         let mut reached = Reached {
             run: 0,
             end: i128::from(base_of(self)),
         };
-        'runs: while reached.run < self.runs.len() {
+        'runs: while reached.run < count {
             extents.push_reserved(extent_after(self, reached));
             reached = with_run(self, reached);
         }
