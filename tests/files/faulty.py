@@ -687,13 +687,15 @@ def times():
     styp = box(b"styp", b"msdh" + be(4, 0))
     found = []
 
+    def goes_back(time, earlier):
+        return f"warning: the fragment starts at {time}, and the fragment of this track before it at {earlier}"
+
     def part(track, time):
         return traf(track, 0x20000, b"", full(b"tfdt", 0, 0, be(4, time)) if time is not None else b"")
 
     def case(name, moofs, said=(), path=None, which=0):
         data = styp + b"".join(moof(*(part(*it) for it in trafs)) for trafs in moofs)
-        lines = [line(data, b"tfdt", path, "warning: the fragment starts at {}, and the fragment of this track before it "
-                      "at {}".format(*said), which)] if said else []
+        lines = [line(data, b"tfdt", path, goes_back(*said), which)] if said else []
         found.append((f"times: {name}", data, lines))
 
     case("forward", [[(1, 0)], [(1, 10)], [(1, 20)]])
@@ -704,8 +706,7 @@ def times():
     case("in one moof", [[(1, 10), (2, 20), (1, 5)]], (5, 10), "moof/traf[2]/tfdt", 2)
     case("back once, then on from there", [[(1, 10)], [(1, 4)], [(1, 6)]], (4, 10), "moof[1]/traf/tfdt", 1)
     wide = styp + moof(traf(1, 0x20000, b"", full(b"tfdt", 1, 0, be(8, 2**33)))) + moof(part(1, 7))
-    found.append(("times: 64 bits", wide, [line(wide, b"tfdt", "moof[1]/traf/tfdt", "warning: the fragment starts at 7, "
-                                                f"and the fragment of this track before it at {2**33}", 1)]))
+    found.append(("times: 64 bits", wide, [line(wide, b"tfdt", "moof[1]/traf/tfdt", goes_back(7, 2**33), 1)]))
     return found
 
 

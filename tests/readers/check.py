@@ -55,8 +55,8 @@ def compact_fault(fields):
 
 
 def sizes_in(box):
-    """Returns the number of samples, their one size or 0, and the list of their sizes, in an `stsz` or `stz2`, or None if
-    the sizes of an `stz2` can't be listed."""
+    """Returns the number of samples, their one size or 0, and the list of their sizes, in an `stsz` or `stz2`. Returns
+    None if the sizes of an `stz2` can't be listed."""
     fields = box["fields"]
     if box["type"] == "stsz":
         return fields["sample_count"], fields["sample_size"], fields["sample_sizes"]
@@ -355,9 +355,10 @@ class Check:
             wrong = [before for before in range(len(sizes) + 1) if at + sum(sizes[:before]) not in starts]
             if entries and wrong:
                 many = "subsegment" if wrong[0] == 1 else "subsegments"
+                place = min(at + sum(sizes[:wrong[0]]), MOST)
                 self.add(box["position"], "sidx" + (f"[{number}]" if number else ""), "index-sizes",
-                         f"after {wrong[0]} {many} the index is at {min(at + sum(sizes[:wrong[0]]), MOST)}, where no box "
-                         "begins and the file doesn't end")
+                         f"after {wrong[0]} {many} the index is at {place}, where no box begins and the file doesn't "
+                         "end")
 
 
 def line(fault):

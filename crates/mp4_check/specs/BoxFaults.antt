@@ -1,5 +1,5 @@
--- The faults of single boxes, with the boxes around them and in them, in the order of the file. Unreadable, Siblings and
--- Contents have the rules.
+-- The faults of single boxes, with the boxes around them and in them, in the order of the file. Unreadable, Siblings
+-- and Contents have the rules.
 use Rattle.std.specs.Prelude.{ℕ, Bool, List, [], ◌∷◌, ◌++◌, map, None, Some, if◌then◌else◌}
 use Rattle.std.specs.declared.option.Option.{Option}
 use Rattle.mp4_check.specs.Contents.{is_unlisted, lacks_sets}

@@ -1,6 +1,6 @@
--- The durations in headers: that of the media is the sum of its samples (ISO/IEC 14496-12, 8.4.2.3), that of a track the
--- sum of its edits, or its media if it has none (8.3.2.3), and that of the movie its longest track (8.2.2.3). Programs
--- round times, so only a difference of a second or more contradicts.
+-- The durations in headers: that of the media is the sum of its samples (ISO/IEC 14496-12, 8.4.2.3), that of a track
+-- the sum of its edits, or its media if it has none (8.3.2.3), and that of the movie its longest track (8.2.2.3).
+-- Programs round times, so only a difference of a second or more contradicts.
 use Rattle.std.specs.Prelude.{ℕ, ◌+◌, ◌-◌, ◌*◌, ◌/◌, ◌^◌, ◌==◌, ◌||◌, Bool, nat_lt, min, max, List, [], ◌∷◌, length}
 use Rattle.std.specs.Prelude.{Result, Ok, Err, None, Some, if◌then◌else◌}
 use Rattle.std.specs.declared.option.Option.{Option}

@@ -1,6 +1,6 @@
--- All faults of a file, in the order in which `mp4inspect check` writes them: first those of single boxes, then those of
--- the tracks and of the movie, of the fragments and of the indexes, each in the order of the file, and at the end that
--- of a file without a movie. docs/CHECK.md lists them.
+-- All faults of a file, in the order in which `mp4inspect check` writes them: first those of single boxes, then those
+-- of the tracks and of the movie, of the fragments and of the indexes, each in the order of the file, and at the end
+-- that of a file without a movie. docs/CHECK.md lists them.
 use Rattle.std.specs.Prelude.{◌≡◌, ℕ, ◌==◌, ◌&&◌, Bool, true, false, List, [], ◌∷◌, ◌++◌, length, is_some, None, Some}
 use Rattle.std.specs.Prelude.{if◌then◌else◌}
 use Rattle.std.specs.List.{list_any}

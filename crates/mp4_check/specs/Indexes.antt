@@ -1,7 +1,7 @@
 -- The segment indexes of a file (ISO/IEC 14496-12, 8.16.3). The subsegments of an index follow one another, the first
 -- at `first_offset` after the index, and each consists of whole boxes of the top level.
-use Rattle.std.specs.Prelude.{◌≡◌, ℕ, ◌+◌, ◌-◌, ◌^◌, ◌<◌, nat_lt, ◌==◌, ◌&&◌, ◌||◌, Bool, min, List, [], ◌∷◌, ◌++◌, is_some}
-use Rattle.std.specs.Prelude.{Result, Ok, Err, None, Some, if◌then◌else◌}
+use Rattle.std.specs.Prelude.{◌≡◌, ℕ, ◌+◌, ◌-◌, ◌^◌, ◌<◌, nat_lt, ◌==◌, ◌&&◌, ◌||◌, Bool, min, List, [], ◌∷◌}
+use Rattle.std.specs.Prelude.{◌++◌, is_some, Result, Ok, Err, None, Some, if◌then◌else◌}
 use Rattle.std.specs.BTreeMap.{get}
 use Rattle.std.specs.List.{list_any}
 use Rattle.std.specs.Ordering.{nat_cmp}

@@ -1,7 +1,7 @@
 -- The faults of the tracks of the movie, in the order of the file. TrackTables, Headers, Durations, Outside and Overlap
 -- have the rules.
-use Rattle.std.specs.Prelude.{◌≡◌, ℕ, ◌+◌, ◌==◌, ◌&&◌, not, Bool, true, false, nat_lt, List, [], ◌∷◌, ◌++◌, fold, is_some}
-use Rattle.std.specs.Prelude.{option_map, option_and_then, None, Some, if◌then◌else◌}
+use Rattle.std.specs.Prelude.{◌≡◌, ℕ, ◌+◌, ◌==◌, ◌&&◌, not, Bool, true, false, nat_lt, List, [], ◌∷◌, ◌++◌, fold}
+use Rattle.std.specs.Prelude.{is_some, option_map, option_and_then, None, Some, if◌then◌else◌}
 use Rattle.std.specs.BTreeMap.{get}
 use Rattle.std.specs.Ordering.{nat_cmp}
 use Rattle.std.specs.declared.option.Option.{Option}

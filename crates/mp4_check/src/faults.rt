@@ -159,7 +159,8 @@ fn movie_faults(alloc: Global, facts: &MovieFacts, longest: Option<u64>) -> Resu
     Ok(faults)
 }
 
-/// Writes the faults of the `moof` at `moof`, which is number `number` of the file. Returns what was written, with them.
+/// Writes the faults of the `moof` at `moof`, which is number `number` of the file. Returns what was written, with
+/// them.
 fn write_moof<S: Source, W: Write>(
     alloc: Global,
     walk: &mut BoxWalk<S>,

@@ -151,8 +151,8 @@ fn time_what(time: u64, earlier: Option<u64>) -> Option<What>
     }
 }
 
-/// Returns the position of the first `tfdt` in a `traf`, or 0 if there is none. `boxes` begins with the boxes inside the
-/// `traf`.
+/// Returns the position of the first `tfdt` in a `traf`, or 0 if there is none. `boxes` begins with the boxes inside
+/// the `traf`.
 fn time_position(boxes: &[TreeBox]) -> u64
     ensures { result ≡ position_of (first_in 2 (four_cc_of names.TFDT) boxes.now) }
 {
@@ -162,8 +162,8 @@ fn time_position(boxes: &[TreeBox]) -> u64
     }
 }
 
-/// Appends the fault of the time of a `traf`, if it goes back, and stores the time. `boxes` begins with the boxes inside
-/// the `traf`.
+/// Appends the fault of the time of a `traf`, if it goes back, and stores the time. `boxes` begins with the boxes
+/// inside the `traf`.
 fn time_faults(
     alloc: Global,
     place: TrafPlace,

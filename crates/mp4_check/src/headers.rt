@@ -92,8 +92,8 @@ fn movie_found(read: mp4_frame::Result<MvhdBox>, position: u64) -> Option<Times>
     }
 }
 
-/// Returns the times of the `mvhd` of a movie, unless it is missing or has a fault. `movie` begins with the boxes inside
-/// its `moov`.
+/// Returns the times of the `mvhd` of a movie, unless it is missing or has a fault. `movie` begins with the boxes
+/// inside its `moov`.
 pub fn movie_times<S: Source>(
     alloc: Global,
     walk: &mut BoxWalk<S>,

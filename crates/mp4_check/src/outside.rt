@@ -2,7 +2,8 @@
 
 ghost use Rattle.std.specs.Prelude.{◌≡◌};
 ghost use Rattle.mp4_check.specs.Media.{AreInOrder};
-ghost use Rattle.mp4_check.specs.Outside.{chunk_place, chunks_outside, counted, found_in, none_yet, run_place, runs_outside};
+ghost use Rattle.mp4_check.specs.Outside.{chunk_place, chunks_outside, counted, found_in, none_yet, run_place};
+ghost use Rattle.mp4_check.specs.Outside.{runs_outside};
 
 use crate::extent::{Lies, whereabouts};
 use crate::media::{Media, media_at};

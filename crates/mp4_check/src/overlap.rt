@@ -28,7 +28,8 @@ fn shares_bytes(one: ChunkExtent, other: ChunkExtent) -> bool
     u128::from(begin) < end.min(other_end)
 }
 
-/// Returns what is found after one more pair of chunks: `chunk`, which has the number `number`, and the one `before` it.
+/// Returns what is found after one more pair of chunks: `chunk`, which has the number `number`, and the one `before`
+/// it.
 fn with_pair(
     found: Option<Overlap>,
     before: ChunkExtent,
