@@ -260,6 +260,8 @@ def fragments():
          lambda begin, end, moof_: "run 1, which begins before the file")
     case("in the moof", lambda o: moof(traf(1, 0x20000, b"", trun(4, [1]))),
          lambda begin, end, moof_: f"run 1 at offset {moof_ + 4}, which is in no mdat")
+    case("in the content of the moof", lambda o: moof(traf(1, 0x20000, b"", trun(12, [1]))),
+         lambda begin, end, moof_: f"run 1 at offset {moof_ + 12}, which is in no mdat")
     case("two runs", lambda o: moof(traf(1, 0x20000, b"", trun(o, [12]), trun(None, [8]))), None)
     case("two runs, the second too long", lambda o: moof(traf(1, 0x20000, b"", trun(o, [12]), trun(None, [9]))),
          over(2, 12, 9), head, "1 of 2 runs lies")
