@@ -7,7 +7,7 @@ use Rattle.std.specs.declared.option.Option.{Option}
 use Rattle.mp4_check.specs.FaultValues.{Value, fault_at}
 use Rattle.mp4_check.specs.FragmentValues.{Places, TrafValue, fragment_header, traf_values}
 use Rattle.mp4_check.specs.Outside.{runs_outside}
-use Rattle.mp4_check.specs.Paths.{in_fragment}
+use Rattle.mp4_check.specs.Paths.{in_fragment, next}
 use Rattle.mp4_check.specs.TrackFaults.{IsMet, first_header, is_track_away}
 use Rattle.mp4_check.specs.declared.extent.Extent.{Extent}
 use Rattle.mp4_check.specs.declared.fault.What.{What}
@@ -133,7 +133,7 @@ abbrev pub faults_of_trafs : File → ℕ → ℕ → Option ℕ → Times → �
 faults_of_trafs f m moof end times n [] = []
 faults_of_trafs f m moof end times n (x ∷ xs) =
     let t = values_in f moof end x in
-    traf_faults f times m n x t ++ faults_of_trafs f m moof (next_end t) (next_times times t) (n + 1) xs
+    traf_faults f times m n x t ++ faults_of_trafs f m moof (next_end t) (next_times times t) (next n) xs
 
 abbrev pub trafs_of : Found → List Found
 trafs_of m = all_in 1 (four_cc_of codes.TRAF) m.after
@@ -144,7 +144,7 @@ faults_of_moofs f m times [] = []
 faults_of_moofs f m times (x ∷ xs) =
     let position = x.box.position in
     faults_of_trafs f m position (Some position) times 0 (trafs_of x)
-    ++ faults_of_moofs f (m + 1) (times_after f position (Some position) times (trafs_of x)) xs
+    ++ faults_of_moofs f (next m) (times_after f position (Some position) times (trafs_of x)) xs
 
 -- the faults of all fragments
 abbrev pub fragment_faults : File → List Value

@@ -7,7 +7,7 @@ use Rattle.std.specs.List.{list_any}
 use Rattle.std.specs.Ordering.{nat_cmp}
 use Rattle.std.specs.declared.option.Option.{Option}
 use Rattle.mp4_check.specs.FaultValues.{Value, fault_at}
-use Rattle.mp4_check.specs.Paths.{in_file}
+use Rattle.mp4_check.specs.Paths.{in_file, next}
 use Rattle.mp4_check.specs.declared.fault.What.{What}
 use Rattle.mp4_check.specs.declared.fault.What.TheVariants as what
 use Rattle.mp4_check.specs.declared.indexes.Starts.{Starts}
@@ -34,7 +34,7 @@ abbrev pub first_wrong : List TreeBox → ℕ → ℕ → ℕ → List SidxEntry
 first_wrong boxes length position before [] =
     if is_start boxes length position then None else Some (wrong_at position before)
 first_wrong boxes length position before (e ∷ es) =
-    if is_start boxes length position then first_wrong boxes length (position + e.referenced_size) (before + 1) es else
+    if is_start boxes length position then first_wrong boxes length (position + e.referenced_size) (next before) es else
     Some (wrong_at position before)
 
 abbrev pub entries_what : List TreeBox → ℕ → ℕ → List SidxEntry → Option What
@@ -55,7 +55,7 @@ abbrev pub faults_of_indexes : (List ℕ → ℕ → ℕ → Reading Sidx) → L
 faults_of_indexes reads file boxes length n [] = []
 faults_of_indexes reads file boxes length n (f ∷ fs) =
     fault_at f.box.position (in_file codes.SIDX n) (index_what reads file boxes length f.box)
-    ++ faults_of_indexes reads file boxes length (n + 1) fs
+    ++ faults_of_indexes reads file boxes length (next n) fs
 
 -- the faults of all indexes of a file with fragments. An index of another file is in a file without fragments
 abbrev pub index_faults : (List ℕ → ℕ → ℕ → Reading Sidx) → List ℕ → List TreeBox → ℕ → List Value

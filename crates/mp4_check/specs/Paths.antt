@@ -1,7 +1,7 @@
 -- The path of a box: the boxes around it, outermost first, and the box itself. Each part is a code, and the number of
 -- earlier boxes with this code in the box around it.
 use Rattle.std.specs.Prelude.{◌≡◌, ℕ, ◌+◌, ◌^◌, ◌==◌, ⊤, List, [], ◌∷◌, ◌++◌, count_by, fold, map, take, slice_index_or}
-use Rattle.std.specs.Prelude.{None, Some, unwrap_or}
+use Rattle.std.specs.Prelude.{◌-◌, min, None, Some, unwrap_or}
 use Rattle.std.specs.BTreeMap.{get}
 use Rattle.std.specs.Ordering.{nat_cmp}
 use Rattle.std.specs.declared.option.Option.{Option}
@@ -20,9 +20,13 @@ abbrev pub code_key : Code → ℕ
 code_key None = 2 ^ 32
 code_key (Some code) = number_of code
 
--- the number of these codes that are the same
+-- the next number, in 64 bits
+abbrev pub next : ℕ → ℕ
+next n = min (n + 1) (2 ^ 64 - 1)
+
+-- the number of these codes that are the same, in 64 bits
 abbrev pub count_of : Code → List Code → ℕ
-count_of code these = count_by (λ c. code_key c == code_key code) these
+count_of code these = min (count_by (λ c. code_key c == code_key code) these) (2 ^ 64 - 1)
 
 -- the open levels, outermost first: the codes of the boxes of each so far, the last one first. A box of depth d ends
 -- all levels that are deeper

@@ -10,7 +10,7 @@ use Rattle.mp4_check.specs.FaultValues.{Value, fault_at}
 use Rattle.mp4_check.specs.Headers.{edits_of, media_times, track_header}
 use Rattle.mp4_check.specs.Outside.{chunks_outside}
 use Rattle.mp4_check.specs.Overlap.{chunks_overlap}
-use Rattle.mp4_check.specs.Paths.{in_file, in_track, single}
+use Rattle.mp4_check.specs.Paths.{in_track, next, single}
 use Rattle.mp4_check.specs.References.{is_away}
 use Rattle.mp4_check.specs.TrackTables.{ChunksValue, chunk_table, loose_chunks, sample_table, track_chunks}
 use Rattle.mp4_check.specs.TrackTables.{value_of_chunks}
@@ -207,7 +207,7 @@ abbrev pub faults_of_tracks : List ℕ → Facts → List Found → ℕ → List
 faults_of_tracks file facts earlier number [] = []
 faults_of_tracks file facts earlier number (f ∷ fs) =
     track_faults file facts earlier number f.after
-    ++ faults_of_tracks file facts (earlier ++ f ∷ []) (number + 1) fs
+    ++ faults_of_tracks file facts (earlier ++ f ∷ []) (next number) fs
 
 -- the duration of the movie is that of its longest track
 abbrev pub movie_fault : Facts → Option ℕ → Option Duration
