@@ -287,7 +287,8 @@ def compare_links(file):
         there = (file.parent / m[1]).resolve() if m[1] else file
         if not there.exists() or m[2] and m[2] not in anchors(there):
             tell(file, m.start(), f"there is no {m[0][2:-1]}")
-    for m in re.finditer(r"`((?:crates|docs|tests|bench|include|tools)/(?!\S*/(?:out|[xX]\.))[\w./*-]+)`", read(file)):
+    folders = "crates|docs|tests|bench|examples|include|tools"
+    for m in re.finditer(rf"`((?:{folders})/(?!\S*/(?:out|[xX]\.))[\w./*-]+)`", read(file)):
         if not any(TOP.glob(m[1].rstrip("/"))):
             tell(file, m.start(), f"there is no {m[1]}")
 
@@ -295,6 +296,7 @@ def compare_links(file):
 def compare_widths():
     found = [*tree("crates/**/*.rt"), *tree("crates/**/*.antt"), *tree("include/*"), *tree("bench/**/*.rs")]
     found += [*tree("bindings/**/*.py"), *tree("bindings/**/*.rs"), *tree("tests/**/*.py"), *tree("**/*.md")]
+    found += [*tree("examples/**/*"), *tree("docs/man/*")]
     found += [it for folder in ("bench", "tests", "tests/*", "tools") for it in tree(f"{folder}/*")
               if it.suffix not in (*TEXTS, ".py")]
     for file in found:
