@@ -12,11 +12,33 @@ import tempfile
 
 TOP = os.path.dirname(os.path.dirname(os.path.abspath(__file__)))
 # The argument of the run that builds a program.
-ARGUMENTS = {"mp4_boxes": "list", "mp4_inspect": "-"}
+ARGUMENTS = {"mp4_boxes": "list", "mp4_inspect": "-", "mp4_remux_program": "--version"}
+
+
+# True if tests also do what takes minutes.
+IS_LONG = bool(os.environ.get("TEST_LONG"))
 
 
 class Failed(Exception):
     pass
+
+
+class NamesSkipped:
+    """Test cases that print which tests they skip and why. Without -v unittest prints only their number."""
+
+    def skipTest(self, reason):
+        print(f"{self.id()} is skipped: {reason}", file=sys.stderr)
+        super().skipTest(reason)
+
+    def needs(self, tool, package=None):
+        """Skips the test on a machine without `tool`, which is in the Debian package `package`."""
+        if not shutil.which(tool):
+            self.skipTest(f"{tool} is not on this machine (apt-get install {package or tool})")
+
+    def takes_long(self):
+        """Skips the test unless TEST_LONG is set."""
+        if not IS_LONG:
+            self.skipTest("it takes long, and TEST_LONG=1 is not set")
 
 
 def number(name, default):

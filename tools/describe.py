@@ -4,8 +4,9 @@
     tools/describe.py            print the description, which docs/boxes.json keeps
     tools/describe.py --schema   print the JSON schema of the fields of each box, which docs/boxes.schema.json keeps
     tools/describe.py --page     print the page about the fields of each box, docs/FIELDS.md
-    tools/describe.py --python   print the typed dictionaries of bindings/python/mp4_box_fields.py
-    tools/describe.py --write    write all four files
+    tools/describe.py --write    write all three files
+
+tools/python_classes.py makes the classes for Python from the description, so run it afterwards.
 
 The description follows the declarations in the sources: the shape of a box, and the names beside it. Tests compare the
 files with the sources, and the fields of boxes with the schema.
@@ -26,10 +27,11 @@ TOP = os.path.dirname(os.path.dirname(os.path.abspath(__file__)))
 SOURCES = "crates/mp4_extra_*/src/*.rt"
 COMMON = ("crates/mp4_shown/src/*.rt", SOURCES)
 CODES = "crates/mp4_frame/src/codes.rt"
+# The list of the boxes that are shown by their declarations.
+SHOWN = "crates/mp4_show_extra/src/fields.rt"
 DESCRIPTION = "docs/boxes.json"
 SCHEMA = "docs/boxes.schema.json"
 PAGE = "docs/FIELDS.md"
-PYTHON = "bindings/python/mp4_box_fields.py"
 TOKEN = re.compile(r'\s*(?:(b?"(?:[^"\\]|\\.)*")|(\w+!?)|(::|.))')
 BITS = {"U8": 8, "U16": 16, "U24": 24, "U32": 32, "U64": 64}
 SIGNED_BITS = {"I8": 8, "I16": 16, "I32": 32}
@@ -132,10 +134,8 @@ class Source:
         """Returns the value of a constant of this file, or of the one that has it."""
         if name in self.constants:
             return self.resolved(Expression(self.constants[name]).value())
-        module = next((of for of, names in re.findall(r"\buse crate::(\w+)::\{?([^;}]*)\}?;", self.text)
-                       if name in re.findall(r"\w+", names)), None)
         for other in sources():
-            if name in other.constants and other is not self and other.path.endswith(f"/{module}.rt" if module else ""):
+            if name in other.constants and other is not self:
                 return other.constant(name)
         raise Unknown(f"{self.path}: no constant {name}")
 
@@ -396,11 +396,11 @@ class Walk:
 
     def widths(self, struct, count, size):
         """Returns the widths of the numbers of an entry, in bits."""
-        for source in (self.source, *sources()):
-            impl = re.search(rf"impl EntryLayout<{count}, {size}> for {struct} \{{(.*?)(?= impl |$)", source.text)
-            if impl:
-                return source.constant(re.search(r"fn widths\(\) -> \[u8; \w+\] \{ (\w+) \}", impl[1])[1])
-        raise Unknown(f"{self.source.path}: no EntryLayout<{count}, {size}> for {struct}")
+        impl = re.search(rf"impl EntryLayout<{count}, {size}> for {struct} \{{(.*?)(?= impl |$)", self.source.text)
+        if not impl:
+            raise Unknown(f"{self.source.path}: no EntryLayout<{count}, {size}> for {struct}")
+        name = re.search(r"fn widths\(\) -> \[u8; \w+\] \{ (\w+) \}", impl[1])[1]
+        return self.source.constant(name)
 
     def entry(self, struct):
         """Returns the fields of an entry, or its kind."""
@@ -413,14 +413,8 @@ class Walk:
         return self.fields(self.source.types[shape], self.source.constant(names))
 
     def condition(self, shape):
-        name, arguments = shape
-        argument = arguments[0][0] if arguments else ""
-        if name == "VersionZero":
-            return "version is 0"
-        if name == "FromVersion":
-            return f"version >= {argument}"
-        flags = f"flags & {int(argument, 0):#x}"
-        return f"{flags} is 0" if name == "WithoutFlags" else flags
+        name, ((argument, _),) = shape
+        return {"FromVersion": f"version >= {argument}", "IfFlags": f"flags & {int(argument, 0):#x}"}[name]
 
 
 # ---- Shapes of one box each: the fields that they show, which a function of the box hands to a sink
@@ -444,6 +438,8 @@ def channel_mapping(_, names):
 def flac_block_data(_, names):
     length, (stream_names, (checksum, others)) = names
     stream = numbers(stream_names, (16, 16, 24, 24, 20, 3, 5, 36))
+    # The numbers of channels and of bits are stored without 1.
+    stream[5]["added"] = stream[6]["added"] = 1
     return number(length, 24) + under("BlockType is 0 and Length is 34", stream + run(checksum)) + under(
         "another BlockType or Length", run(others))
 
@@ -486,25 +482,17 @@ def descriptions(walk):
     found = optional(number(constant("DESCRIPTION_LENGTH"), 32))
     for kind, fields in kinds.items():
         for field in under(f"grouping_type is {kind}", fields):
-            if not any(it["name"] == field["name"] for it in found):
+            known = next((it for it in found if it["name"] == field["name"]), None)
+            if known is None:
                 found.append(field)
             else:
-                next(it for it in found if it["name"] == field["name"])["when"] += f" or {kind}"
+                known["when"] += f" or {kind}"
+                # A kind may have more reserved bits than another.
+                known["bits"] = max(known["bits"], field["bits"])
     return found
 
 
-def protection_system(_, names):
-    known = {"name": names[1], "kind": "text", "of": names[0], "optional": True}
-    return [{"name": names[0], "kind": "bytes", "length": 16}, known]
-
-
-def item_id(_, names):
-    return [{**field, "bits_by_version": [16, 32]} for field in number(names, 32)]
-
-
 OWN = {
-    "ItemId": item_id,
-    "ProtectionSystem": protection_system,
     "ChannelMapping": channel_mapping, "BlockData": flac_block_data, "Country": locale, "Language": locale,
     "TypedValue": typed_value, "SampleSizes": sample_sizes,
 }
@@ -516,9 +504,9 @@ BOXES = {"Colr": colours}
 
 
 def box_in(source):
-    """Returns the description of the box that a file declares, or `None` if it declares none."""
+    """Returns the description of the box that a file declares, or `None` if its fields are not shown by declaration."""
     declared = re.search(r"impl DeclaredBox for (\w+) ", source.text)
-    if not declared:
+    if not declared or f"ExtraBox::{declared[1]}Box(b) => put_declared(b, sink)" not in read(SHOWN):
         return None
     name = declared[1]
     code = codes()[re.search(r"const CODE: u32 = codes::(\w+);", source.text)[1]]
@@ -531,7 +519,7 @@ def box_in(source):
     else:
         shape, names = re.search(
             rf"impl HasFields for {name} \{{ ghost shown = "
-            r"\{ λ view b\. (?:shown_by )?⟦<(\w+) as NamedShape>⟧\.shown (\w+) view",
+            r"\{ λ view b\. ⟦<(\w+) as NamedShape>⟧\.shown (\w+) view",
             source.text).groups()
         fields = walk.fields(source.types[shape], source.constant(names))
     alias = re.search(rf"pub type (\w+) = (?:Declared|Checked)<{name}>;", source.text)[1]
@@ -559,7 +547,8 @@ def value_schema(field):
         if field.get("signed"):
             largest = 2 ** bits - 1 if bits == 64 else 2 ** (bits - 1) - 1
             return {"type": "integer", "minimum": -2 ** (bits - 1), "maximum": largest}
-        return {"type": "integer", "minimum": 0, "maximum": 2 ** bits - 1}
+        added = field.get("added", 0)
+        return {"type": "integer", "minimum": added, "maximum": 2 ** bits - 1 + added}
     if kind == "fixed":
         return {"type": "number"}
     if kind == "code":
@@ -579,22 +568,11 @@ def value_schema(field):
     raise Unknown(f"the kind {kind}")
 
 
-def either(one, other):
-    """Returns the schema of the values of both schemas, which differ only in their ranges."""
-    if not isinstance(one, dict):
-        return one
-    widest = {"minimum": min, "maximum": max}
-    return {key: widest.get(key, either)(it, other[key]) for key, it in one.items()}
-
-
 def schema_of(fields):
-    """Returns the schema of an object with these fields. A field may have other widths under other conditions."""
+    """Returns the schema of an object with these fields."""
     required = [field["name"] for field in fields if not field.get("optional") and "when" not in field]
-    found = {}
-    for field in fields:
-        name, schema = field["name"], value_schema(field)
-        found[name] = either(found[name], schema) if name in found else schema
-    return {"type": "object", "properties": found, "required": required, "additionalProperties": False}
+    return {"type": "object", "properties": {field["name"]: value_schema(field) for field in fields},
+            "required": required, "additionalProperties": False}
 
 
 def description():
@@ -634,6 +612,7 @@ def words_of(field):
     if kind in ("number", "flags", "date", "fixed"):
         bits = " or ".join(str(it) for it in field.get("bits_by_version", [field["bits"]])) + " bits"
         bits = "1 bit" if bits == "1 bits" else bits + (", signed" if field.get("signed") else "")
+        bits += f", plus {field['added']}" if "added" in field else ""
         more = {"flags": "flags, ", "date": "seconds since the start of 1904, ", "fixed": "fixed-point number, "}
         after = f", {field['fraction_bits']} after the point" if kind == "fixed" else ""
         return more.get(kind, "number, ") + bits + after
@@ -663,86 +642,10 @@ def rows_of(fields, before=""):
 def page():
     found = [HEAD]
     for box in boxes():
-        title = textwrap.fill(f"{box['title']} ({box['standard']}).", WIDTH)
-        found.append(f"## `{box['code']}`\n\n{title}\n\nIn Rattle it is a "
+        found.append(f"## `{box['code']}`\n\n{box['title']} ({box['standard']}).\n\nIn Rattle it is a "
                      f"[`{box['type']}`](../{box['source']}).\n\nfield | kind | present\n---|---|---\n"
                      + "\n".join(rows_of(box["fields"])) + "\n")
     return "\n".join(found)
-
-
-# ---- The module for Python
-
-MODULE = '''\
-"""The fields of boxes as typed dictionaries. tools/describe.py makes this module from the declarations of the boxes: do
-not edit it.
-
-A function for each type of boxes returns the fields of the box at the front of the bytes, as `mp4_box_codec.fields`
-does. A box of another type is a ValueError.
-
->>> import mp4_box_fields
->>> mp4_box_fields.pasp(bytes.fromhex("00000010 70617370 00000004 00000003"))["vSpacing"]
-3
-"""
-
-from typing import Any, List, TypedDict, Union
-
-import mp4_box_codec
-
-
-def _fields(code: str, data: Any) -> Any:
-    """Returns the fields of a box with this code."""
-    with memoryview(data) as view:
-        found = bytes(view.cast("B")[4:8]).decode("latin-1")
-    if found != code:
-        raise ValueError(f"this box is a {found!r}, not a {code!r}")
-    return mp4_box_codec.fields(data)
-'''
-
-
-def python_type(field, name, classes):
-    """Returns the type of a value in Python, after it added the classes that it needs to `classes`."""
-    kind = field["kind"]
-    if kind in ("number", "flags", "date"):
-        return "int"
-    if kind == "list" and "of_kind" in field:
-        return f"List[{python_type(field['of_kind'], name, classes)}]"
-    if kind in ("list", "group"):
-        inside = field["entries"] if kind == "list" else field["fields"]
-        own = name + "".join(part[:1].upper() + part[1:] for part in field["name"].split("_"))
-        python_class(own, f"{'An entry' if kind == 'list' else 'The members'} of `{field['name']}`.", inside, classes)
-        return f"List[{own}]" if kind == "list" else own
-    return {"fixed": "float", "letters": "Union[str, int]"}.get(kind, "str")
-
-
-def python_class(name, words, fields, classes):
-    """Adds the typed dictionary of these fields to `classes`, after those inside. Fields of the same name, which are
-    present under other conditions, have the same type."""
-    members = dict.fromkeys(
-        (field["name"], python_type(field, name, classes), bool(field.get("optional") or "when" in field))
-        for field in fields)
-    always = [f"    {field}: {kind}" for field, kind, may_lack in members if not may_lack]
-    sometimes = [f"    {field}: {kind}" for field, kind, may_lack in members if may_lack]
-    base, head = "TypedDict", [f'    """{words}"""', ""]
-    if always and sometimes:
-        classes.append("\n".join([f"class _{name}(TypedDict):", *always]))
-        base, always = f"_{name}, total=False", []
-    elif sometimes:
-        base = "TypedDict, total=False"
-    classes.append("\n".join([f"class {name}({base}):", *head, *always, *sometimes]))
-
-
-def python():
-    found = [MODULE]
-    for box in boxes():
-        classes, name = [], box["code"].strip()
-        kind = name[:1].upper() + name[1:]
-        python_class(kind, f"The fields of `{name}` ({box['standard']}).", box["fields"], classes)
-        found += [f"{it}\n" for it in dict.fromkeys(classes)]
-        text = f"Returns the fields of `{name}`: {box['title'][:1].lower()}{box['title'][1:]} ({box['standard']})."
-        found.append(f"def {name}(data: Any) -> {kind}:\n" + "\n".join(
-            textwrap.wrap(f'"""{text}"""', 120, initial_indent="    ", subsequent_indent="    "))
-            + f"\n    return _fields({json.dumps(box['code'])}, data)\n")
-    return "\n\n".join(found)
 
 
 # ---- Files
@@ -766,12 +669,12 @@ def lines_of(value, indent):
 
 def files():
     """Returns the texts of the files by their paths."""
-    return {DESCRIPTION: text_of(description()), SCHEMA: text_of(schema()), PAGE: page(), PYTHON: python()}
+    return {DESCRIPTION: text_of(description()), SCHEMA: text_of(schema()), PAGE: page()}
 
 
 def main():
     words = sys.argv[1:]
-    kinds = {"": DESCRIPTION, "--schema": SCHEMA, "--page": PAGE, "--python": PYTHON}
+    kinds = {"": DESCRIPTION, "--schema": SCHEMA, "--page": PAGE}
     if len(words) > 1 or "".join(words) not in {*kinds, "--write"}:
         if words in (["-h"], ["--help"]):
             return print(__doc__.strip())

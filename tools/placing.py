@@ -1,4 +1,4 @@
-"""Writes the files of tools/install below a prefix, and keeps a list of them for tools/uninstall."""
+"""Writes the files of an installation below a prefix, and keeps a list of them for tools/uninstall."""
 import contextlib
 import fcntl
 import glob
@@ -82,6 +82,15 @@ def put(path, what, mode):
         os.replace(new, path)
     finally:
         shutil.rmtree(work, ignore_errors=True)
+
+
+def put_all(root, found):
+    """Writes files below `root`. `found` has them as `contents.parts` returns them."""
+    for path, (what, mode) in found.items():
+        if mode is not None and isinstance(what, str):
+            with open(what, "rb") as file:
+                what = file.read()
+        put(os.path.join(root, path), what, mode)
 
 
 def left_behind(path):

@@ -5,7 +5,7 @@ import io
 import struct
 import unittest
 
-import mp4_box_codec as codec
+from mp4_box_codec import _library, calls as codec
 
 
 def table_box(name, version, flags, *numbers):
@@ -62,7 +62,7 @@ class Calls(unittest.TestCase):
         found = codec.stsc(table_box("stsc", 0, 0, 2, 1, 4, 1, 3, 5, 2))
         self.assertEqual(found.rows, [(1, 4, 1, 1), (3, 5, 2, 9)])
         found = codec.elst(table_box("elst", 0, 0, 1, 7, 0xFFFFFFFF, 0x00010002))
-        self.assertEqual(found.rows, [(7, 0xFFFFFFFF, 1, 2)])
+        self.assertEqual(found.rows, [(7, -1, 1, 2)])
 
     def test_sizes_and_runs(self):
         self.assertEqual(codec.stsz(table_box("stsz", 0, 0, 0, 2, 8, 9)), (0, 0, 0, 2, array.array("I", [8, 9])))
@@ -165,14 +165,14 @@ class Calls(unittest.TestCase):
     def test_versions(self):
         """A library is for the module if both have the same major and minor version: here 0.1 and 12.34."""
         for version in (1000, 1001, 1999):
-            self.assertTrue(codec._is_for(version, "0.1.0"), version)
-            self.assertTrue(codec._is_for(version, "0.1.7"), version)
+            self.assertTrue(_library.is_for(version, "0.1.0"), version)
+            self.assertTrue(_library.is_for(version, "0.1.7"), version)
         for version in (0, 999, 2000, 10000, 11000, 1000000, 1001000, 100001000, 4294967295):
-            self.assertFalse(codec._is_for(version, "0.1.0"), version)
-        self.assertTrue(codec._is_for(12034056, "12.34.0"))
+            self.assertFalse(_library.is_for(version, "0.1.0"), version)
+        self.assertTrue(_library.is_for(12034056, "12.34.0"))
         for version in (12033056, 12035056, 11034056, 13034056, 1234000, 12340000):
-            self.assertFalse(codec._is_for(version, "12.34.0"), version)
-        self.assertTrue(codec._is_for(codec.version(), codec.__version__))
+            self.assertFalse(_library.is_for(version, "12.34.0"), version)
+        self.assertTrue(_library.is_for(codec.version(), _library.__version__))
 
     def test_faults(self):
         def status(call, data):

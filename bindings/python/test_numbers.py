@@ -10,7 +10,7 @@ import io
 import re
 import unittest
 
-import mp4_box_codec as codec
+from mp4_box_codec import calls as codec
 
 TIMES = "creation_time u64, modification_time u64, duration u64, flags u24, "
 FRAGMENT = "track_id u32, sample_description_index u32, default_sample_duration u32, default_sample_size u32"
@@ -40,9 +40,9 @@ TABLES = {
     "stts": ("sample_count u32, sample_delta u32", "flags u24, version u8"),
     "ctts": ("sample_count u32, sample_offset i32", "flags u24, version u8"),
     "stsc": ("first_chunk u32, samples_per_chunk u32, sample_description_index u32", "flags u24, version u8"),
-    "elst": ("segment_duration u64, media_time u64, media_rate u16, media_rate_fraction u16", "flags u24, version u8"),
+    "elst": ("segment_duration u64, media_time i64, media_rate u16, media_rate_fraction u16", "flags u24, version u8"),
     "stsz": ("u32", "flags u24, sample_size u32, sample_count u32, version u8"),
-    "trun": ("duration u32, size u32, flags u32, composition_offset u32",
+    "trun": ("duration u32, size u32, flags u32, composition_offset i32",
              "flags u24, sample_count u32, data_offset i32, first_sample_flags u32, version u8"),
 }
 # The boxes of strings, without these. A field of a part of a box has a path.
@@ -284,9 +284,9 @@ class Numbers(unittest.TestCase):
         for name, text in times.items():
             for path, _, kind in fields_of(text.replace(", flags u24, ", "")):
                 self.try_field(name, both(name), header(name)._replace(version=0), path, "u32")
-        for path in ("rows.1.segment_duration", "rows.1.media_time"):
+        for path, kind in (("rows.1.segment_duration", "u32"), ("rows.1.media_time", "i32")):
             for version in (0, 2, 255):
-                self.try_field("elst", both("elst"), table("elst", 2)._replace(version=version), path, "u32")
+                self.try_field("elst", both("elst"), table("elst", 2)._replace(version=version), path, kind)
 
     def test_first_samples(self):
         """The numbers of first samples aren't in the bytes, but in the array that is passed."""

@@ -31,8 +31,10 @@ fn words_of(said: &[u8]) -> Vec<Vec<u8>> {
 
 /// Returns the folders that pkg-config names.
 fn configured() -> Vec<PathBuf> {
-    let ran = Command::new("pkg-config").args(["--libs-only-L", "mp4_box_codec"]).output();
-    let said = ran.map(|it| it.stdout).unwrap_or_default();
+    let mut asked = Command::new("pkg-config");
+    // Without this variable it leaves out the folder of a Debian package, since the linker searches that by itself.
+    asked.args(["--libs-only-L", "mp4_box_codec"]).env("PKG_CONFIG_ALLOW_SYSTEM_LIBS", "1");
+    let said = asked.output().map(|it| it.stdout).unwrap_or_default();
     let folders = words_of(&said);
     folders.iter().filter_map(|it| it.strip_prefix(b"-L")).map(|it| OsString::from_vec(it.to_vec()).into()).collect()
 }

@@ -30,6 +30,15 @@ def oldest_rust():
     return re.search(r'^rust-version = "(.*)"$', source(RUST, "Cargo.toml"), re.M)[1]
 
 
+def written_examples(folder):
+    """Writes docs/PYTHON.md without its fences to a file in `folder`, and returns the path. For doctest a fence would
+    belong to the output before it."""
+    path = os.path.join(folder, "PYTHON.txt")
+    with open(path, "w", encoding="utf-8") as page:
+        page.write(re.sub("^```.*$", "", source("docs", "PYTHON.md"), flags=re.M))
+    return path
+
+
 class Bindings(unittest.TestCase):
     def setUp(self):
         self.folder, self.library = tempfile.mkdtemp(prefix="bindings-"), library()
@@ -110,20 +119,26 @@ class Rust(Bindings):
 
 
 class Python(Bindings):
-    def python(self, *words, **more):
+    def python(self, *words, cwd=os.path.join(TOP, "bindings", "python"), **more):
         env = {**os.environ, "MP4_BOX_CODEC_LIB": os.path.join(self.library, "libmp4_box_codec.so.0"),
-               "PYTHONDONTWRITEBYTECODE": "1", **more}
-        return self.succeeds(sys.executable, *words, cwd=os.path.join(TOP, "bindings", "python"), env=env)
+               "PYTHONPATH": os.path.join(TOP, "bindings", "python"), "PYTHONDONTWRITEBYTECODE": "1", **more}
+        return self.succeeds(sys.executable, *words, cwd=cwd, env=env)
 
     def test_module(self):
         self.python("-m", "unittest", "test_mp4_box_codec", "test_numbers")
 
     def test_examples_of_the_module(self):
-        self.python("-m", "doctest", "mp4_box_codec.py")
-        self.python("-m", "doctest", "mp4_box_fields.py")
+        folder = os.path.join(TOP, "bindings", "python", "mp4_box_codec")
+        names = [it[:-3] for it in sorted(os.listdir(folder)) if it.endswith(".py") and it != "__init__.py"]
+        names = ["mp4_box_codec", *(f"mp4_box_codec.{it}" for it in names)]
+        said = self.python("-c", "import doctest, importlib, sys\nfor it in sys.argv[1:]:\n"
+                           "    print(*doctest.testmod(importlib.import_module(it)))", *names).decode()
+        failed, tried = zip(*(map(int, line.split()) for line in said.splitlines()))
+        self.assertEqual(sum(failed), 0, said)
+        self.assertGreater(sum(tried), 25)
 
     def test_examples_of_the_page(self):
-        self.python("-m", "doctest", os.path.join(TOP, "docs", "PYTHON.md"))
+        self.python("-m", "doctest", "-o", "ELLIPSIS", written_examples(self.folder), cwd=TOP)
 
     def refused(self, path, text):
         """Imports the module with the library at `path`, and expects that it refuses the library with the text

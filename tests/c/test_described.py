@@ -1,12 +1,13 @@
 """Compares what `mp4_fields` gives for boxes with the schema that tools/describe.py makes from their declarations:
-names in their order, kinds and ranges. The boxes are those of tests/rows, and some here, so that each member occurs."""
+names in their order, kinds and ranges. Reads them as the classes for Python too, which lose nothing. The boxes are
+those of tests/rows, and some here, so that each member occurs."""
 
 import collections
+import dataclasses
 import importlib
 import json
 import os
 import re
-import typing
 import unittest
 
 from tests.built import TOP, codec
@@ -33,14 +34,17 @@ BOXES = [
     # the STREAMINFO of a stream of 44,100 Hz, two channels and 16 bits, and another block
     full_box(0, 0, b"dfLa", u32(34), u16(4096, 8192), u32(3)[1:], u32(4)[1:], u64(44100 << 44 | 1 << 41 | 15 << 36 | 5),
              bytes(range(0x81, 0x91)), u32(0x84000002), b"ab"),
+    # the most channels and bits
+    full_box(0, 0, b"dfLa", u32(0x80000022), u16(1, 1), bytes(6), u64(1 << 44 | 7 << 41 | 31 << 36), bytes(16)),
     full_box(0, 0, b"elng", b"\xff\0"), full_box(0, 1, b"schm", b"cenc", u32(0x10000), b"\xff\0"),
     # each kind of description, one with its own length, and entries that are cut
     full_box(1, 0, b"sgpd", b"roll", u32(2, 1), u16(0xFFFE)), full_box(0, 0, b"sgpd", b"rap ", u32(1), b"\x85"),
     full_box(0, 0, b"sgpd", b"tele", u32(1), b"\x86"), full_box(1, 0, b"sgpd", b"abcd", u32(0, 1, 3), b"abc"),
     full_box(1, 0, b"sgpd", b"seig", u32(0, 1, 25), b"\x07\x19\1\0", bytes(range(0x81, 0x91)), b"\4abcd"),
     full_box(1, 0, b"sgpd", b"roll", u32(2, 2), u16(3)),
-    # the system Widevine
-    full_box(0, 0, b"pssh", bytes.fromhex("edef8ba979d64acea3c827dcd51d21ed"), u32(1), b"\1"),
+    # reserved bits of two kinds
+    full_box(1, 0, b"sgpd", b"seig", u32(20, 1), b"\xff\x19\1\x08", bytes(16)),
+    full_box(1, 0, b"sgpd", b"tele", u32(1, 1), b"\xff"),
     # three sizes of four bits
     full_box(0, 0, b"stz2", u32(4, 3), b"\x12\x34"),
     # numbers of one, two and three bytes, and reserved bits
@@ -92,26 +96,48 @@ def members(schema, path):
 class Described(unittest.TestCase):
     maxDiff = None
 
-    def test_typed_dictionaries(self):
-        """The module for Python has a function for each box, and its result has the members of the schema."""
-        codec()
-        typed = importlib.import_module("mp4_box_fields")
+    @classmethod
+    def setUpClass(cls):
+        cls.buffers = [*dict.fromkeys(bytes(row.buffer) for _, row in rows())]
+
+    def test_members_of_classes(self):
+        """The module for Python has a class for each box, with the members of the schema."""
+        module = codec()
         with open(os.path.join(TOP, "docs/boxes.schema.json"), encoding="utf-8") as file:
             schemas = json.load(file)["$defs"]
+        classes = importlib.import_module("mp4_box_codec._fields").CLASSES
         for code, schema in schemas.items():
-            found = typing.get_type_hints(getattr(typed, code))["return"]
-            self.assertEqual({*typing.get_type_hints(found)}, {*schema["properties"]}, code)
-            self.assertEqual(found.__required_keys__, {*schema["required"]}, code)
-        shape = box(b"pasp", u32(4, 3))
-        self.assertEqual(typed.pasp(shape), {"hSpacing": 4, "vSpacing": 3})
-        self.assertRaises(ValueError, typed.btrt, shape)
+            found = {it.metadata.get("name", it.name): it for it in dataclasses.fields(classes[code])}
+            self.assertEqual({*found}, {*schema["properties"]}, code)
+            needed = {name for name, it in found.items() if it.default is dataclasses.MISSING}
+            self.assertLessEqual(needed, {*schema["required"]}, code)
+        self.assertEqual(module.read(box(b"pasp", u32(4, 3))), module.Pasp(hSpacing=4, vSpacing=3))
+        with self.assertRaisesRegex(module.Mp4Error, "this box is a 'pasp', not a 'btrt'"):
+            module.Btrt.read(box(b"pasp", u32(4, 3)))
+
+    def test_classes_of_structs(self):
+        """A box that a class has read is written in its normal form."""
+        library, count = codec(), collections.Counter()
+        classes = importlib.import_module("mp4_box_codec._fields").CLASSES
+        for buffer in self.buffers:
+            kind, size = classes.get(buffer[4:8].decode("latin-1")), int.from_bytes(buffer[:4], "big")
+            if kind is None or not kind._call or not 8 <= size <= len(buffer):
+                continue
+            try:
+                value, normal = kind.read(buffer[:size]), library.normal(buffer[:size])
+            except library.Mp4Error:
+                continue
+            count[kind.code] += 1
+            self.assertEqual(value.write(), normal, value)
+        self.assertEqual([it for it, kind in classes.items() if kind._call and not count[it]], [])
 
     def test_rows(self):
         library = codec()
+        typed = importlib.import_module("mp4_box_codec._fields")
         with open(os.path.join(TOP, "docs/boxes.schema.json"), encoding="utf-8") as file:
             schemas = json.load(file)["$defs"]
         seen, count, found = set(), collections.Counter(), []
-        for buffer in [*(bytes(row.buffer) for _, row in rows()), *BOXES]:
+        for buffer in [*self.buffers, *BOXES]:
             code = buffer[4:8].decode("latin-1")
             if code in schemas:
                 try:
@@ -120,6 +146,9 @@ class Described(unittest.TestCase):
                     continue
                 count[code] += 1
                 found += faults(fields, schemas[code], code, seen)
+                value = typed.of_json(typed.CLASSES[code], fields)
+                if typed.to_json(value) != fields:
+                    found.append(f"{code}: the class has {value}")
         self.assertEqual(found, [])
         self.assertEqual([it for it in schemas if not count[it]], [], "there is no box of these types")
         unseen = set().union(*(members(schema, code) for code, schema in schemas.items())) - seen

@@ -5,6 +5,8 @@ import unittest
 
 from tests.built import codec
 from tests.files.made import box, nested
+from tests.interfaces.answers import Sample, Samples
+from tests.interfaces.movies import cases
 from tests.readers.test_containers import lines
 
 # Words of the text of each status, which the texts of the others don't have.
@@ -16,11 +18,42 @@ TEXTS = {
 }
 
 
+def value_of(track, name):
+    """Returns what a track of Python answers, or None for an error."""
+    try:
+        return getattr(track, name)
+    except codec().Mp4Error:
+        return None
+
+
 class Library(unittest.TestCase):
     def test_texts_of_statuses(self):
         for status in TEXTS:
             text = codec().status_text(status)
             self.assertEqual([it for it, words in TEXTS.items() if words in text], [status], text)
+
+    def test_tracks_of_files(self):
+        """`File` lists the tracks and samples of the files of movies.py."""
+        compared = 0
+        for name, data, answer, _ in cases():
+            tracks = codec().File(data).tracks
+            self.assertEqual([it.box.position for it in tracks], [it.position for it in answer.tracks], name)
+            for track, wanted in zip(tracks, answer.tracks):
+                known = [it if isinstance(it, int) else None for it in (wanted.track_id, wanted.timescale)]
+                kind = wanted.handler.decode("latin-1") if isinstance(wanted.handler, bytes) else None
+                found = [value_of(track, it) for it in ("id", "timescale", "handler")]
+                self.assertEqual(found, [*known, kind], name)
+                is_first = answer.first(wanted.track_id) is wanted
+                fragments = wanted.fragments if is_first else Samples([])
+                listed = value_of(track, "samples")
+                if wanted.tables.problem or known[0] is None or fragments is None or fragments.problem:
+                    self.assertIsNone(listed, name)
+                elif listed is not None or not any(it.problem for it in answer.trafs):
+                    compared += 1
+                    self.assertEqual([
+                        Sample(it.offset, it.size, it.decode_time, it.duration, it.rendering_offset, it.sync,
+                               it.description) for it in listed], [*wanted.tables.listed, *fragments.listed], name)
+        self.assertGreater(compared, 30)
 
     def first_box_in(self, line):
         """Checks that the walk says where the first box inside begins, after the fields before it."""

@@ -70,8 +70,12 @@ class Interrupted(unittest.TestCase):
         for words, data in (
                 (["-"], self.plain), (["--json", "-"], self.plain), (["check", "-"], self.plain),
                 (["samples", "-"], self.plain), (["check", "-"], self.plain[:-1]), (["none.mp4"], b""),
-                (["in.mp4"], self.plain), (["--help"], b""), (["faststart", "in.mp4", "out.mp4"], self.plain)):
+                (["in.mp4"], self.plain), (["--help"], b"")):
             self.compare("mp4_inspect", words, data)
+
+    def test_mp4remux(self):
+        for words in (["faststart", "in.mp4", "out.mp4"], ["faststart", "in.mp4", "-"]):
+            self.compare("mp4_remux_program", words, self.plain)
 
 
 if __name__ == "__main__":

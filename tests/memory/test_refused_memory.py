@@ -5,16 +5,19 @@ request and all after it.
   every call has its usual result, at the second try if need be. If all later requests are refused too, it may end with
   status 1: a call is out of memory twice, and nothing else is wrong.
 - mp4boxes prints "out of memory" and writes nothing, or does what it does with ample memory.
+- mp4remux prints "out of memory", ends with status 3 and leaves no file, or does what it does with ample memory.
 - mp4inspect prints "out of memory" after a beginning of its output, and ends with status 3. With --json the beginning
   has nothing of the file. Or it does what it does with ample memory."""
 
 import os
+import random
 import shutil
 import subprocess
 import tempfile
 import unittest
 
 from tests.built import TOP, built
+from tests.programs.test_faststart import Track, made
 
 
 def stored(crate, name):
@@ -87,6 +90,40 @@ class RefusedMemory(unittest.TestCase):
                 self.assertIn(run.stderr, (b"mp4inspect: out of memory\n", b"mp4inspect: -: out of memory\n"))
                 self.assertTrue(begun.startswith(run.stdout), run.stdout)
         return ample.stdout
+
+    def test_mp4remux_faststart(self):
+        """Refuses memory to mp4remux, which has to write the same file or none."""
+        with tempfile.TemporaryDirectory() as folder:
+            names = [os.path.join(folder, name) for name in ("in.mp4", "out.mp4")]
+            with open(names[0], "wb") as file:
+                file.write(made(random.Random(1), [Track(1, [[10, 20], [30]]), Track(2, [[5]])]))
+            command = [built("mp4_remux_program"), "faststart", *names]
+
+            def left():
+                """Returns what a run has left beside in.mp4, and removes it."""
+                found = {}
+                for name in sorted(os.listdir(folder)):
+                    if name != "in.mp4":
+                        with open(os.path.join(folder, name), "rb") as file:
+                            found[name] = file.read()
+                        os.remove(os.path.join(folder, name))
+                return found
+            ample = self.run_with(command, b"", REQUESTS=self.counted)
+            self.assertEqual(ample.returncode, 0, ample.stderr)
+            wanted = left()
+            with open(self.counted, encoding="utf-8") as text:
+                most = int(text.read())
+            for settings in ({}, {"AND_LATER": "1"}):
+                for number in range(1, most + 1):
+                    with self.subTest(request=number, **settings):
+                        run = self.run_with(command, b"", REFUSE=str(number), **settings)
+                        found = left()
+                        if run.returncode == 0:
+                            self.assertEqual((run.stdout, run.stderr, found), (ample.stdout, b"", wanted))
+                            continue
+                        self.assertEqual((run.returncode, run.stdout, found), (3, b"", {}))
+                        self.assertTrue(run.stderr.endswith(b"out of memory\n") or b"os error 12" in run.stderr,
+                                        run.stderr)
 
     def test_mp4inspect(self):
         wanted = stored("mp4_inspect", "stdout")

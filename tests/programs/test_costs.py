@@ -3,8 +3,9 @@
 has to write more than half of it. It may have twice as many addresses as the table has memory, since a vector that
 grows has two copies for a moment.
 
-Also measures the processor time of each command over movies with many tracks and fragments. It has to be linear in
-their number. The times of `qt-faststart` are printed beside those of `faststart`, if it is on the machine.
+Also measures the processor time of each command, and of `mp4remux faststart`, over movies with many tracks and
+fragments. It has to be linear in their number. The times of `qt-faststart` are printed beside those of `faststart`, if
+it is on the machine.
 
 Setting: LENGTH, the approximate number of bytes of a file (100,000)."""
 
@@ -144,7 +145,7 @@ class Costs(unittest.TestCase):
 class Times(unittest.TestCase):
     def compare(self, make, words):
         """Measures a command over the movies of `make`, and prints the times."""
-        program = built("mp4_inspect")
+        program = built("mp4_remux_program" if words == ["faststart"] else "mp4_inspect")
         took = times(make, lambda path, out: [program, *words, "--", path, *[out] * (words == ["faststart"])])
         self.assertLess(took[-1], GROWTH * took[-2] + SPARE, said(words, make, took))
         print(f"costs: {said(words, make, took)}")

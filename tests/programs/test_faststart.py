@@ -1,9 +1,11 @@
-"""Runs the built program `mp4inspect faststart` as a user does, over files that are made by hand. It reads the written
-files, with readers/samples.py for the samples, which shares nothing with the codec.
+"""Runs the built program `mp4remux faststart` over handmade files. Reads the written files with readers/samples.py,
+which has no code of the codec.
 
 - Every sample has the same bytes, times and description as before, and the moov is before the first mdat. The other
-  boxes of the top level are the same bytes, in the same order. In the moov only the chunk offsets are changed.
-- A file whose moov is before the first mdat already is copied. So is each written file.
+  boxes of the top level are the same bytes, in the same order. In the moov only the chunk offsets and those of
+  auxiliary information are changed. A stco with an offset that would not fit becomes a co64.
+- A file whose moov is before the first mdat already is copied. So is each written file, and a file without mdat.
+- OUT can be a pipe. On a terminal the progress is shown.
 - Each refusal is expected with its text. Then nothing is written, and existing files are unchanged.
 - Files can't be opened, written or renamed, a write fails, and there is little memory.
 - OUT is a directory, a FIFO, a socket, a device, a link of each kind, or the file that is read. Its permissions are
@@ -11,8 +13,11 @@ files, with readers/samples.py for the samples, which shares nothing with the co
 
 Settings: COUNT (200 files of random tracks), SEED."""
 
+import contextlib
 import os
+import pty
 import random
+import re
 import resource
 import shutil
 import signal
@@ -28,6 +33,7 @@ from tests.files.made import be, box, ftyp, full, movie, tkhd, track
 from tests.readers.samples import File, boxes, disagreement, inner, table_samples, tables_of
 
 OFFSETS = {b"stco": 4, b"co64": 8}
+COPIED = "a copy, as no media data are before the moov"
 HOLDS = (b"moov", b"trak", b"mdia", b"minf", b"stbl")
 MEMORY = 64 << 20
 # The text of a table whose count is too large.
@@ -114,6 +120,10 @@ def blank(data, found):
     if code in OFFSETS:
         count = int.from_bytes(content[4:8], "big")
         return head + content[:8] + bytes(OFFSETS[code] * count) + content[8 + OFFSETS[code] * count:]
+    if code == b"saio":
+        begin, width = 16 if content[3] & 1 else 8, 8 if content[0] else 4
+        count = int.from_bytes(content[begin - 4:begin], "big")
+        return head + content[:begin] + bytes(width * count) + content[begin + width * count:]
     if code not in HOLDS:
         return head + content
     return head + b"".join(blank(data, it) for it in inner(data, found))
@@ -197,7 +207,7 @@ class Runs:
             fail(f"{name}: {os.listdir(self.folder)}")
 
     def copies(self, name):
-        self.run(0, "copy.mp4: a copy, as moov is before the media data already\n", "", name, "copy.mp4")
+        self.run(0, f"copy.mp4: {COPIED}\n", "", name, "copy.mp4")
         if self.read("copy.mp4") != self.read(name):
             fail(f"{name}: not a copy")
 
@@ -207,7 +217,7 @@ class Runs:
         self.write("in.mp4", data)
         for name in ("none.mp4", "kept.mp4"):
             self.write("kept.mp4", b"kept")
-            self.run(status, "", f"mp4inspect: in.mp4: {text}\n", "in.mp4", name)
+            self.run(status, "", f"mp4remux: in.mp4: {text}\n", "in.mp4", name)
             if os.path.exists(self.path("none.mp4")) or self.read("kept.mp4") != b"kept":
                 fail(f"{text}: a file is written")
             if [it for it in os.listdir(self.folder) if it.endswith(".partial")]:
@@ -249,10 +259,12 @@ def moved(runs, random_, files):
     runs.moves("bytes after the entries", made(random_, [Track(1, [[10, 20], [30]], pad=be(4, 40, 41))]))
     # Tracks differ by their numbers, whatever their headers are.
     second = tkhd(1)
-    for what, header in (("two tracks of one track_ID", second), ("no header", box(b"free", second[8:])),
-                         ("a header of version 2", second[:8] + b"\x02" + second[9:]),
-                         ("a short header", box(b"tkhd", second[8:60])), ("two headers", second + tkhd(2))):
+    for what, header in (("two tracks of one track_ID", second), ("two headers", second + tkhd(2))):
         runs.moves(what, made(random_, [one, Track(2, [[5], [6, 7]], header=header)], [1, 2, 2, 1]))
+    # The flags of a reference say that the media data are in the same file.
+    for reference in (full(b"alis", 0, 1), full(b"urn ", 0, 1)):
+        data = made(random_, [one])
+        runs.moves(reference[4:8].decode(), data.replace(full(b"url ", 0, 1), reference))
     runs.moves("a track without tables", made(random_, [Track(1, [], has_tables=False), Track(2, [[5], [6, 7]])]))
     runs.moves("no track", ftyp(b"isom") + box(b"mdat", b"media") + movie())
     for index in range(files):
@@ -276,12 +288,11 @@ def refused(runs, random_):
     movie_at = tops[b"moov"][1]
     runs.refuses(plain[:movie_at], "there is no moov")
     runs.refuses(plain + plain[movie_at:], f"there is another moov at {len(plain)}")
-    runs.refuses(ftyp(b"isom") + movie(), "there is no mdat")
     runs.refuses(b"", "there is no moov")
     runs.refuses(plain + b"\0\0\0\x09free", f"there is no whole box at {len(plain)}")
     runs.refuses(plain[:-1], f"there is no whole box at {movie_at}")
-    other = box(b"saio", bytes(12))
-    for name, content, where in ((b"saio", bytes(12), "inside"), (b"iloc", bytes(12), "meta"),
+    for name, content, where in ((b"saio", bytes(4) + be(4, 2, 100), "inside"), (b"saio", bytes(3), "inside"),
+                                 (b"iloc", bytes(12), "meta"), (b"saio", bytes(4) + be(4, 1, 100), "traf"),
                                  (b"tfra", bytes(16), "mfra"), (b"cmov", b"", "inside")):
         other = box(name, content)
         if where == "inside":
@@ -289,6 +300,9 @@ def refused(runs, random_):
             at = len(data) - len(other)
         elif where == "meta":
             data = made(random_, [one], behind=full(b"meta", 0, 0, other))
+            at = len(data) - len(other)
+        elif where == "traf":
+            data = made(random_, [one], behind=box(b"moof", box(b"traf", other)))
             at = len(data) - len(other)
         else:
             data = made(random_, [one], behind=box(b"mfra", other))
@@ -300,9 +314,22 @@ def refused(runs, random_):
     for name in (b"moof", b"sidx"):
         data = made(random_, [one], front=ftyp(b"isom") + box(name, bytes(24) if name == b"sidx" else b""))
         runs.refuses(data, f"{name.decode()} at {len(ftyp(b'isom'))}: its offsets can't be shifted")
+    away = plain.index(full(b"url ", 0, 1))
+    data = plain[:away + 8] + bytes(4) + plain[away + 12:]
+    runs.refuses(data, f"url  at {away}: the media data are in another file")
+    for name, flags in ((b"alis", 0), (b"urn ", 0), (b"imdt", 0), (b"rsrc", 1)):
+        data = plain[:away] + full(name, 0, flags) + plain[away + 12:]
+        runs.refuses(data, f"{name.decode()} at {away}: the media data are in another file")
     # A track is named by its number, counted from 1, and the position of its trak.
     traks = [it[1] for it in inner(plain, tops[b"moov"]) if it[0] == b"trak"]
-    lost = "overlaps the moov, or lies on both sides of the place where it goes"
+    lost = "would not be the same"
+    # The header of the second track can't be read.
+    second = tkhd(2)
+    for header in (box(b"free", second[8:]), second[:8] + b"\x02" + second[9:], box(b"tkhd", second[8:60])):
+        data = made(random_, [one, Track(2, [[5], [6, 7]], header=header)], [1, 2, 2, 1])
+        top = next(it for it in boxes(data, 0, len(data), True) if it[0] == b"moov")
+        at = [it[1] for it in inner(data, top) if it[0] == b"trak"][1]
+        runs.refuses(data, f"trak 2 at {at}: its track_ID, timescale and handler can't be kept")
     # One sample is in the moov, one continues in it, and one begins before the mdat and ends in it.
     for which in (movie_at + 8, movie_at - 2, tops[b"mdat"][1] - 2):
         at = plain.index(b"stco") + 12
@@ -316,7 +343,10 @@ def refused(runs, random_):
     runs.refuses(data, f"trak 2 at {traks[1]}: sample 3 {lost}")
     for at, name in ((plain.rindex(b"stts"), "stts"), (plain.rindex(b"stsc"), "stsc")):
         runs.refuses(plain[:at] + b"free" + plain[at + 4:], f"trak 2 at {traks[1]}: there is no {name}")
-    runs.refuses(plain.replace(b"mdia", b"free", 1), f"trak 1 at {traks[0]}: there is no mdia")
+    runs.refuses(plain.replace(b"mdia", b"free", 1),
+                 f"trak 1 at {traks[0]}: its track_ID, timescale and handler can't be kept")
+    runs.refuses(plain.replace(b"stsd", b"free", 1), f"trak 1 at {traks[0]}: there is no stsd")
+    runs.refuses(plain.replace(b"minf", b"free", 1), f"trak 1 at {traks[0]}: there is no minf")
     at = plain.rindex(b"stts") + 8
     data = plain[:at] + be(4, 9) + plain[at + 4:]
     runs.refuses(data, f"trak 2 at {traks[1]}: stts at {at - 12}: {MANY}")
@@ -351,28 +381,53 @@ def behind_the_movie(runs, random_):
     index = full(b"sidx", 0, 0, be(4, 1, 1000, 0, 0) + be(2, 0, 0))
     fragment = box(b"moof", full(b"mfhd", 0, 0, be(4, 1)) + box(b"traf", full(b"tfhd", 0, 0x20000, be(4, 1))))
     runs.moves("an index behind the moov", made(random_, [one], behind=index))
-    runs.moves("a fragment behind the moov", made(random_, [one], behind=fragment))
+    defaults = box(b"mvex", full(b"trex", 0, 0, be(4, 1, 1, 0, 0, 0)))
+    runs.moves("a fragment behind the moov", made(random_, [one], behind=fragment, inside=defaults))
+
+
+def offsets_in(data, found):
+    """Returns the code and the offsets of each table of offsets in the box `found`, in the order of the file."""
+    code, _, content, _, _ = found
+    if code in OFFSETS:
+        width, begin = OFFSETS[code], 8
+    elif code == b"saio":
+        width, begin = 8 if content[0] else 4, 16 if content[3] & 1 else 8
+    else:
+        return [it for box_ in (inner(data, found) if code in HOLDS else ()) for it in offsets_in(data, box_)]
+    count = int.from_bytes(content[begin - 4:begin], "big")
+    return [(code, [int.from_bytes(content[begin + width * it:][:width], "big") for it in range(count)])]
 
 
 def largest_offset(runs):
-    """Checks that an offset may become 2^32 - 1, and no more. Track 2, which is looked at after the offsets, has no
-    `stsc`, so that no file is written."""
+    """Checks that an offset of a stco may become 2^32 - 1. If one would become larger, the stco becomes a co64, and all
+    boxes after it begin 4 bytes later. Other tables stay as they are. Reads only the beginning of each written file."""
     start = len(ftyp(b"isom"))
     media = 2**32 - 100
-
-    def moov(offset):
-        found = movie(Track(1, [[1]]).box([offset]), Track(2, [[1]]).box([start + 16]))
-        return found[:found.rindex(b"stsc")] + b"free" + found[found.rindex(b"stsc") + 4:]
-    largest = 2**32 - 1 - len(moov(0))
     begin = start + media
-    for offset, text in (
-            (largest, f"trak 2 at {begin + moov(0).rindex(b'trak') - 4}: there is no stsc"),
-            (largest + 1, f"stco at {begin + moov(0).index(b'stco') - 4}: an offset would be too large")):
+
+    def moov(offset, own=0):
+        whole = movie(Track(1, [[1]]).box([offset]), Track(2, [[1], [1]]).box([start + 16, start + 17]))
+        inside = full(b"saio", 1, 0, be(4, 1) + be(8, own))
+        return be(4, len(whole) + len(inside)) + whole[4:] + inside
+    size = len(moov(0))
+    # An offset to the count of the saio, 12 bytes after its beginning.
+    own = begin + size - 12
+    largest = 2**32 - 1 - size
+    for offset, grows in ((largest, 0), (largest + 1, 4)):
         runs.write("in.mp4", ftyp(b"isom") + be(4, 1) + b"mdat" + be(8, media))
         with open(runs.path("in.mp4"), "r+b") as file:
             file.seek(begin)
-            file.write(moov(offset))
-        runs.run(1, "", f"mp4inspect: in.mp4: {text}\n", "in.mp4", "none.mp4")
+            file.write(moov(offset, own))
+        with subprocess.Popen([runs.program, "faststart", "in.mp4", "-"], cwd=runs.folder, stdout=subprocess.PIPE,
+                              stderr=subprocess.DEVNULL) as process:
+            front = process.stdout.read(start + size + grows + 16)
+        runs.count += 1
+        end = start + size + grows
+        tables_ = offsets_in(front, next(it for it in boxes(front[:end], 0, end, True) if it[0] == b"moov"))
+        wanted = [(b"co64" if grows else b"stco", [offset + size + grows]),
+                  (b"stco", [start + 16 + size + grows, start + 17 + size + grows]), (b"saio", [end - 12])]
+        if tables_ != wanted or front[end:] != be(4, 1) + b"mdat" + be(8, media):
+            fail(f"an offset of {offset}: {tables_} and not {wanted}")
     os.remove(runs.path("in.mp4"))
 
 
@@ -383,14 +438,14 @@ def ends(runs, random_):
     done = "out.mp4: moov is moved from {} to {}\n"
     tops = {it[0]: it[1] for it in boxes(data, 0, len(data), True)}
     said = done.format(tops[b"moov"], tops[b"mdat"])
-    runs.run(3, "", "mp4inspect: none.mp4: No such file or directory (os error 2)\n", "none.mp4", "out.mp4")
-    runs.run(3, "", "mp4inspect: none/out.mp4: No such file or directory (os error 2)\n", "in.mp4", "none/out.mp4")
+    runs.run(3, "", "mp4remux: none.mp4: No such file or directory (os error 2)\n", "none.mp4", "out.mp4")
+    runs.run(3, "", "mp4remux: none/out.mp4: No such file or directory (os error 2)\n", "in.mp4", "none/out.mp4")
     # Control characters of names are escaped.
     runs.write("a\x1b.mp4", data)
     runs.run(0, said.replace("out.mp4", "b\\u{1b}.mp4"), "", "a\x1b.mp4", "b\x1b.mp4")
     none = "No such file or directory (os error 2)\n"
-    runs.run(3, "", f"mp4inspect: none\\u{{1b}}.mp4: {none}", "none\x1b.mp4", "out.mp4")
-    runs.run(3, "", f"mp4inspect: none\\u{{1b}}/b.mp4: {none}", "in.mp4", "none\x1b/b.mp4")
+    runs.run(3, "", f"mp4remux: none\\u{{1b}}.mp4: {none}", "none\x1b.mp4", "out.mp4")
+    runs.run(3, "", f"mp4remux: none\\u{{1b}}/b.mp4: {none}", "in.mp4", "none\x1b/b.mp4")
     for name in ("a\x1b.mp4", "b\x1b.mp4"):
         os.remove(runs.path(name))
     # A file that exists is replaced.
@@ -403,14 +458,14 @@ def ends(runs, random_):
         resource.setrlimit(resource.RLIMIT_FSIZE, (100, 100))
     runs.write("out.mp4", b"old")
     large = "write failed: File too large (os error 27)\n"
-    runs.run(3, "", f"mp4inspect: out.mp4: {large}", "in.mp4", "out.mp4", preexec_fn=short)
-    runs.run(3, "", f"mp4inspect: new.mp4: {large}", "in.mp4", "new.mp4", preexec_fn=short)
+    runs.run(3, "", f"mp4remux: out.mp4: {large}", "in.mp4", "out.mp4", preexec_fn=short)
+    runs.run(3, "", f"mp4remux: new.mp4: {large}", "in.mp4", "new.mp4", preexec_fn=short)
     if runs.read("out.mp4") != b"old" or os.path.exists(runs.path("new.mp4")):
         fail("after a failed write a file is there")
     # Nobody may write into a folder.
     os.chmod(runs.folder, 0o555)
     user = {"user": "nobody"} if os.getuid() == 0 else {}
-    runs.run(3, "", "mp4inspect: new.mp4: Permission denied (os error 13)\n", "in.mp4", "new.mp4", **user)
+    runs.run(3, "", "mp4remux: new.mp4: Permission denied (os error 13)\n", "in.mp4", "new.mp4", **user)
     os.chmod(runs.folder, 0o755)
     if runs.read("in.mp4") != data or sorted(os.listdir(runs.folder)) != ["in.mp4", "out.mp4"]:
         fail(f"what was there is changed: {os.listdir(runs.folder)}")
@@ -439,7 +494,7 @@ class Nodes:
     def refused(self, text, name="out.mp4", source="in.mp4", status=3, told=None):
         """Checks that OUT is refused with the text `text`, and that everything is unchanged."""
         before = self.seen()
-        self.runs.run(status, "", f"mp4inspect: {told or name}: {text}\n", source, name)
+        self.runs.run(status, "", f"mp4remux: {told or name}: {text}\n", source, name)
         if self.seen() != before or self.runs.read("in.mp4") != self.data:
             fail(f"{name}: {text}: something is changed: {before} {self.seen()}")
 
@@ -530,19 +585,18 @@ def nodes(runs, random_):
     here.refused("this is a directory; IN must be a regular file", "out.mp4", "folder", told="folder")
 
     # `-` means the standard input and output, and `./-` a file with this name.
-    dash = "faststart needs files, not the standard input or output; ./- is a file of this name"
-    here.refused(dash, "-", status=2)
-    here.refused(dash, "out.mp4", "-", status=2, told="-")
+    here.refused("IN must be a file, since it is read twice; ./- is a file of this name", "out.mp4", "-", status=2,
+                 told="-")
     here.written("./-", "-")
 
     # Files that an earlier run left behind, or somebody else made, are unchanged.
-    for name in (".mp4inspect-0.partial", "out.mp4.partial", "victim"):
+    for name in (".mp4remux-0.partial", "out.mp4.partial", "victim"):
         runs.write(name, b"other")
-    os.symlink("victim", runs.path(".mp4inspect-1.partial"))
-    os.symlink("nothing", runs.path(".mp4inspect-2.partial"))
-    os.mkdir(runs.path(".mp4inspect-3.partial"))
+    os.symlink("victim", runs.path(".mp4remux-1.partial"))
+    os.symlink("nothing", runs.path(".mp4remux-2.partial"))
+    os.mkdir(runs.path(".mp4remux-3.partial"))
     here.written("out.mp4", "out.mp4")
-    if any(runs.read(name) != b"other" for name in (".mp4inspect-0.partial", "out.mp4.partial", "victim")):
+    if any(runs.read(name) != b"other" for name in (".mp4remux-0.partial", "out.mp4.partial", "victim")):
         fail("a file of another run is written")
     # The name has the greatest length.
     longest = "n" * 251 + ".mp4"
@@ -561,6 +615,118 @@ def nodes(runs, random_):
             now = stat.S_IMODE(os.lstat(runs.path("out.mp4")).st_mode)
             if now != mode & 0o777:
                 fail(f"the file that is read has {mode:o}, and the one that is written {now:o}")
+
+
+def moved_offset(offset, movie_at, media_at, size):
+    """Returns the offset after the moov, of `size` bytes, is moved from `movie_at` to `media_at`."""
+    if movie_at <= offset < movie_at + size:
+        return offset - movie_at + media_at
+    return offset + size if media_at <= offset < movie_at else offset
+
+
+def auxiliary(runs, random_):
+    """Moves moovs with offsets of auxiliary information, of both versions, with and without a type. They lead to each
+    part of the file, and to the boundaries of the parts."""
+    track_, free = Track(1, [[10, 20], [30]]), box(b"free", b"spare")
+    for version, flags in ((0, 0), (1, 0), (0, 1), (1, 1)):
+        width, kind = 8 if version else 4, b"cenc" + be(4, 7) if flags else b""
+        data = made(random_, [track_], inside=full(b"saio", version, flags, kind + be(4, 9) + bytes(9 * width)),
+                    behind=free)
+        tops = {it[0]: it for it in boxes(data, 0, len(data), True)}
+        media_at, movie_at = tops[b"mdat"][1], tops[b"moov"][1]
+        size = len(data) - len(free) - movie_at
+        offsets = [0, media_at - 1, media_at, media_at + 9, movie_at - 1, movie_at, movie_at + 101, movie_at + size - 1,
+                   movie_at + size]
+        begin = movie_at + size - 9 * width
+        data = data[:begin] + be(width, *offsets) + data[begin + 9 * width:]
+        runs.moves(f"saio of version {version}", data)
+        after = runs.read("out.mp4")
+        at = begin - movie_at + media_at
+        expected = be(width, *(moved_offset(it, movie_at, media_at, size) for it in offsets))
+        if after[at:at + 9 * width] != expected:
+            fail(f"saio of version {version}: {after[at:at + 9 * width].hex()} and not {expected.hex()}")
+
+
+def without_media(runs, random_):
+    """Copies files without media data, and those in which nothing is before the moov."""
+    init = ftyp(b"isom") + movie()
+    for data in (init, init + box(b"mdat", b"media"), movie(Track(1, [[5]]).box([0])), init + box(b"free")):
+        runs.write("in.mp4", data)
+        runs.run(0, f"out.mp4: {COPIED}\n", "", "in.mp4", "out.mp4")
+        if runs.read("out.mp4") != data:
+            fail("a file without media data: not a copy")
+
+
+def pipes(runs, random_):
+    """Writes to the standard output: what is written to a file, and nothing else."""
+    runs.write("in.mp4", made(random_, [Track(1, [[10, 20], [30]]), Track(2, [[5]])]))
+    runs.write("init.mp4", ftyp(b"isom") + movie())
+    runs.write("bad.mp4", ftyp(b"isom") + box(b"mdat", b"media"))
+    for name, status, error in (("in.mp4", 0, b""), ("init.mp4", 0, b""),
+                                ("bad.mp4", 1, b"mp4remux: bad.mp4: there is no moov\n")):
+        done = subprocess.run([runs.program, "faststart", name, "-"], cwd=runs.folder, capture_output=True, timeout=120,
+                              check=False)
+        wanted = b""
+        if not status:
+            subprocess.run([runs.program, "faststart", name, "out.mp4"], cwd=runs.folder, check=True, timeout=120,
+                           stdout=subprocess.DEVNULL)
+            wanted = runs.read("out.mp4")
+        if (done.returncode, done.stdout, done.stderr) != (status, wanted, error):
+            fail(f"{name} to a pipe: {done.returncode}, {done.stderr}")
+    read, write = os.pipe()
+    os.close(read)
+    done = subprocess.run([runs.program, "faststart", "in.mp4", "-"], cwd=runs.folder, stdout=write, timeout=120,
+                          stderr=subprocess.PIPE, check=False)
+    os.close(write)
+    if (done.returncode, done.stderr) != (3, b"mp4remux: -: write failed: Broken pipe (os error 32)\n"):
+        fail(f"a closed pipe: {done.returncode}, {done.stderr}")
+    if sorted(os.listdir(runs.folder)) != ["bad.mp4", "in.mp4", "init.mp4", "out.mp4"]:
+        fail(f"files are left: {os.listdir(runs.folder)}")
+
+
+def progress(runs):
+    """Shows on a terminal how much is written, if that takes more than a second, and removes the line at the end. Shows
+    nothing if it takes less."""
+    start, size = len(ftyp(b"isom")), 3 << 20
+    runs.write("in.mp4", ftyp(b"isom") + be(4, size) + b"mdat" + bytes(size - 8) + movie(
+        Track(1, [[5]]).box([start + 8])))
+    subprocess.run([runs.program, "faststart", "in.mp4", "out.mp4"], cwd=runs.folder, check=True, timeout=120,
+                   stdout=subprocess.DEVNULL)
+    for seconds in (0, 1.5):
+        screen, terminal = pty.openpty()
+        with subprocess.Popen([runs.program, "faststart", "in.mp4", "-"], cwd=runs.folder, stdout=subprocess.PIPE,
+                              stderr=terminal) as process:
+            os.close(terminal)
+            # A pipe holds less than a block, so the program waits for the reader.
+            time.sleep(seconds)
+            written = process.stdout.read()
+        shown = b""
+        with contextlib.suppress(OSError):
+            while part := os.read(screen, 1000):
+                shown += part
+        os.close(screen)
+        is_right = re.fullmatch(rb"(\rmp4remux: \d+ % written)+\r\x1b\[K", shown) if seconds else shown == b""
+        if process.returncode or written != runs.read("out.mp4") or not is_right:
+            fail(f"{seconds} seconds on a terminal: {process.returncode}, {shown}")
+
+
+def names(runs, random_):
+    """Refuses names that are not UTF-8, and command lines without a command or a file."""
+    runs.write("in.mp4", made(random_, [Track(1, [[10]])]))
+    refused_ = "this name is not UTF-8, and only names that are can be opened"
+    for words in ((b"caf\xe9.mp4", "out.mp4"), ("in.mp4", b"caf\xe9.mp4")):
+        runs.run(3, "", f"mp4remux: caf\\xe9.mp4: {refused_}\n", *words)
+    for words in ([], ["faststart"], ["faststart", "in.mp4"], ["in.mp4", "out.mp4"]):
+        done = subprocess.run([runs.program, *words], cwd=runs.folder, capture_output=True, timeout=120, check=False)
+        if done.returncode != 2 or done.stdout or b"Usage: " not in done.stderr:
+            fail(f"{words}: {done.returncode}, {done.stdout}, {done.stderr}")
+    words = [built("mp4_inspect"), "faststart", "in.mp4", "out.mp4"]
+    done = subprocess.run(words, cwd=runs.folder, capture_output=True, timeout=120, check=False)
+    text = b"mp4inspect: faststart is a command of mp4remux: mp4remux faststart IN OUT\n"
+    if (done.returncode, done.stdout, done.stderr) != (2, b"", text):
+        fail(f"mp4inspect faststart: {done.returncode}, {done.stdout}, {done.stderr}")
+    if os.listdir(runs.folder) != ["in.mp4"]:
+        fail(f"a file is written: {os.listdir(runs.folder)}")
 
 
 def large(runs):
@@ -598,7 +764,7 @@ class FastStart(unittest.TestCase):
             os.chmod(it, 0o755)
             self.addCleanup(shutil.rmtree, it)
         self.random = random.Random(number("SEED", 1))
-        self.runs = Runs(shutil.copy(built("mp4_inspect"), place), folder)
+        self.runs = Runs(shutil.copy(built("mp4_remux_program"), place), folder)
 
     def test_files_that_are_moved(self):
         moved(self.runs, self.random, number("COUNT", 200))
@@ -624,6 +790,21 @@ class FastStart(unittest.TestCase):
 
     def test_large_media_data_in_little_memory(self):
         large(self.runs)
+
+    def test_auxiliary_information(self):
+        auxiliary(self.runs, self.random)
+
+    def test_files_without_media_data(self):
+        without_media(self.runs, self.random)
+
+    def test_pipes(self):
+        pipes(self.runs, self.random)
+
+    def test_progress_on_a_terminal(self):
+        progress(self.runs)
+
+    def test_names(self):
+        names(self.runs, self.random)
 
     def test_many_tracks(self):
         many(self.runs, self.random)

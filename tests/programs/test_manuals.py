@@ -1,9 +1,9 @@
 """Compares the man pages with what they describe. It fails if a page lacks a command, an option, a function or a
 status, or has one that doesn't exist.
 
-- mp4inspect(1) has the commands, arguments and options of `mp4inspect --help`, and of `--help` after each command, with
-  the names and defaults of their numbers. It has the environment variables that the program reads, the statuses of
-  crates/mp4_inspect/specs/Outcome.antt, and 2 for misuse.
+- mp4inspect(1) and mp4remux(1) have the commands, arguments and options of `--help`, and of `--help` after each
+  command, with the names and defaults of their numbers. They have the environment variables that the program reads,
+  the statuses of specs/Outcome.antt of its crate, and 2 for misuse.
 - mp4boxes(1) has the words of the usage line, with `<` in the synopsis and in an example of each. It has the statuses
   of crates/mp4_boxes/specs/Outcome.antt.
 - mp4_box_codec(3) has the functions of the header with their arguments, and its statuses with their numbers.
@@ -66,7 +66,7 @@ def statuses(crate):
     return set(re.findall(r"^status_of .* = (\d+)$", source("crates", crate, "specs", "Outcome.antt"), re.M))
 
 
-def compare_options(page, command, help_text, tags):
+def compare_options(page, name, command, help_text, tags):
     """Compares the options of a command: their names, the names of their numbers, and the defaults of these."""
     said = re.findall(r"^ +((?:-\w, )? *--[\w-]+(?: <\w+>)?)  +(.*)", help_text, re.M)
     options = {re.sub("[<>]", "", name).strip(): text for name, text in said}
@@ -74,42 +74,42 @@ def compare_options(page, command, help_text, tags):
         # The page has it once, for all commands.
         options.pop("-h, --help")
     shown = {it for it in tags if it.startswith("-")}
-    compare(page.name, f"option of `{command or 'mp4inspect'}`", shown, set(options))
+    compare(page.name, f"option of `{command or name}`", shown, set(options))
     for option, text in options.items():
         default = re.search(r"\[default: (.*)\]", text)
         if default and not re.search(rf"\b{re.escape(default[1])}\b", tags.get(option, "")):
             wrong.append(f"{page.name} doesn't say that {option} is {default[1]} if left out")
 
 
-def compare_inspect(program):
-    """Compares mp4inspect(1) with what the program prints about itself."""
+def compare_people(program, name, crate):
+    """Compares the page of the program `name` with what the program prints about itself."""
 
     def said(*words):
         return subprocess.run([program, *words], stdout=subprocess.PIPE, text=True, check=True).stdout
 
-    page, whole = Page("mp4inspect.1"), said("--help")
+    page, whole = Page(f"{name}.1"), said("--help")
     commands = set(re.findall(r"^  (\w+) ", whole.partition("Commands:\n")[2].partition("\n\n")[0], re.M))
     tags = page.tagged("COMMANDS")
     compare(page.name, "command", {tag.split()[0] for tag in tags}, commands)
     synopsis = [" ".join(plain(it).split()) for it in page.sections.get("SYNOPSIS", "").split(".br\n")]
     compare(page.name, "command of the synopsis",
-            {it.split()[1] for it in synopsis if re.match(r"mp4inspect [a-z]+( |$)", it)}, commands)
+            {it.split()[1] for it in synopsis if re.match(rf"{name} [a-z]+( |$)", it)}, commands)
     for command in ["", *sorted(commands - {"help"})]:
         text = said(*[command] * bool(command), "--help")
         part = f"Options of {command}" if command else ""
-        compare_options(page, command, text, page.tagged("OPTIONS", part))
-        begin = f"mp4inspect {command} " if command else "mp4inspect ["
+        compare_options(page, name, command, text, page.tagged("OPTIONS", part))
+        begin = f"{name} {command} " if command else f"{name} ["
         line = next((it for it in synopsis if it.startswith(begin)), "")
         arguments = re.findall(r"^ +<(\w+)>", text.partition("Arguments:\n")[2].partition("\n\n")[0], re.M)
         options = [it for it in re.findall(r"^ +(?:-\w, )?(--[\w-]+)", text, re.M) if it not in ("--help", "--version")]
         for word in [*arguments, *options]:
             if not re.search(rf"(?<![\w-]){word}(?![\w-])", line):
-                wrong.append(f"{page.name} lacks {word} in the synopsis of `mp4inspect {command}`")
-    sources = "".join(source("crates", "mp4_inspect", "src", it) for it in
-                      os.listdir(os.path.join(TOP, "crates", "mp4_inspect", "src")) if it.endswith(".rt"))
+                wrong.append(f"{page.name} lacks {word} in the synopsis of `{name} {command}`")
+    sources = "".join(source("crates", crate, "src", it)
+                      for it in os.listdir(os.path.join(TOP, "crates", crate, "src")) if it.endswith(".rt"))
     variables = set(re.findall(r'env::var(?:_os)?\(\s*rt,\s*"(\w+)"', sources))
     compare(page.name, "variable", set(page.tagged("ENVIRONMENT")), variables)
-    compare(page.name, "status", set(page.tagged("EXIT STATUS")), statuses("mp4_inspect") | {"2"})
+    compare(page.name, "status", set(page.tagged("EXIT STATUS")), statuses(crate) | {"2"})
 
 
 def compare_boxes(program):
@@ -142,7 +142,11 @@ class Manuals(unittest.TestCase):
         wrong.clear()
 
     def test_mp4inspect(self):
-        compare_inspect(built("mp4_inspect"))
+        compare_people(built("mp4_inspect"), "mp4inspect", "mp4_inspect")
+        self.assertEqual(wrong, [])
+
+    def test_mp4remux(self):
+        compare_people(built("mp4_remux_program"), "mp4remux", "mp4_remux_program")
         self.assertEqual(wrong, [])
 
     def test_mp4boxes(self):

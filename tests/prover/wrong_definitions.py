@@ -318,12 +318,14 @@ class Copy:
             raise Refused(f"it doesn't compile\n{ran.stdout.decode('utf-8', 'replace')[-2000:]}")
 
     def failed_programs(self, changes):
-        """Returns the names of the tests of PROGRAM_TESTS made for `changes` that fail with mp4inspect, and with the
-        library if one calls it, as these are built here. Raises Refused if they don't compile."""
+        """Returns the names of the tests of PROGRAM_TESTS made for `changes` that fail with mp4inspect, and with
+        mp4remux and the library if one calls them, as these are built here. Raises Refused if they don't compile."""
         named = {name: test for name, test in program_tests().items() if any(it.caught_by([name]) for it in changes)}
         with tempfile.TemporaryDirectory(dir=self.folder) as folder:
             environment = {**os.environ, "TEST_PROGRAMS": folder, "TEST_LIBRARY": os.path.join(folder, "library")}
             self.build("program", "mp4_inspect", os.path.join(folder, "mp4_inspect"))
+            if any("::test_faststart::" in name for name in named):
+                self.build("program", "mp4_remux_program", os.path.join(folder, "mp4_remux_program"))
             if any(map(LIBRARY.match, named)):
                 self.build("library", environment["TEST_LIBRARY"])
             words = [sys.executable, "-m", "unittest", *named.values()]

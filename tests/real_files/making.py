@@ -72,6 +72,8 @@ def sound(duration=1):
     return generated("sine", f"frequency=440:sample_rate=44100:duration={duration}")
 
 
+# The key of encrypted files.
+KEY = "76a6c65c5ea762046bd749a2e632ccbb"
 WORDS = {
     "VIDEO": video(), "LONG_VIDEO": video(duration=3), "H263_VIDEO": video("128x96"), "DNX_VIDEO": video("256x120"),
     "SVQ_VIDEO": video("160x120"), "CINEFORM_VIDEO": video("128x96"), "SOUND": sound(), "LONG_SOUND": sound(3),
@@ -79,7 +81,7 @@ WORDS = {
     "TEXTS": ["-i", "texts.srt"], "CHAPTERS": ["-i", "chapters.txt"], "COVER": ["-i", "cover.png"],
     "COVER_FILE": ["cover.png"], "ALPHA_FILE": ["alpha.png"],
     "TAGS": [word for name, text in TAGS.items() for word in ("-metadata", f"{name}={text}")],
-    "CENC": shlex.split("-encryption_scheme cenc-aes-ctr -encryption_key 76a6c65c5ea762046bd749a2e632ccbb"
+    "CENC": shlex.split(f"-encryption_scheme cenc-aes-ctr -encryption_key {KEY}"
                         " -encryption_kid a7e61c373e219033c21091fa607bf3b8"),
 }
 

@@ -4,6 +4,8 @@
 - Lines, JSON and samples are those of a second computation (readers/inspect.py, readers/samples.py). The boxes follow
   one another from the beginning of the file to its end, and those in a box up to the end of that box.
 - The samples of each track are the packets that ffprobe reads (packets.py).
+- `mp4remux faststart` writes each file with a `moov`, except those of `REFUSED`, and ffmpeg copies the same packets
+  from what it writes. Encrypted packets are decrypted by ffmpeg, which needs the offsets of the auxiliary information.
 - At least `TYPED` of a hundred boxes of the types of the codec and of mp4_extra have their type in trees of boxes, and
   at least `SHOWN` of a hundred boxes that hold more than boxes are shown with fields. The test prints the numbers for
   each code.
@@ -13,6 +15,7 @@ A file that can't be made is skipped with the reason. Setting: KEEP (a folder fo
 import collections
 import os
 import shutil
+import subprocess
 import tempfile
 import unittest
 
@@ -47,6 +50,9 @@ WRONG_SAMPLES = {"adpcm_ms.mov": "past the end of the file"}
 WITHOUT_PACKETS = {
     "cenc_frag.mp4": "saio atom found without saiz", "cenc_dash.mp4": "saio atom found without saiz",
 }
+# The files with a `moov` that `mp4remux faststart` refuses, each with a part of its message. The samples of this one
+# end after the file.
+REFUSED = {"adpcm_ms.mov": "would not be the same"}
 folder, reasons, runs = None, {}, None
 
 
@@ -70,6 +76,14 @@ def made():
     for name, reason in reasons.items():
         for path in [] if reason else making.paths(folder, name):
             yield os.path.relpath(path, folder), read(path)
+
+
+def hashes(path):
+    """Returns what ffmpeg prints of the packets of the file `path`, decrypted if it is encrypted."""
+    key = ["-decryption_key", making.KEY]
+    words = ["ffmpeg", "-v", "error", *key, "-i", path, "-map", "0", "-c", "copy", "-f", "framehash", "-"]
+    done = subprocess.run(words, capture_output=True, check=False)
+    return done.returncode, done.stdout
 
 
 def kinds(structure):
@@ -160,6 +174,26 @@ class RealFiles(unittest.TestCase):
         for track, those in samples.items():
             wrong = list(packets.disagreements(those, found[track], is_fragmented))
             self.assertEqual(wrong[:8], [], f"track {track}")
+
+    def test_fast_start(self):
+        """Compares the packets of each file before and after `mp4remux faststart`. Stills and segments have no `moov`,
+        and are refused; of the other files only those of `REFUSED` are."""
+        program, refused, moved = built("mp4_remux_program"), 0, 0
+        for name, data in made():
+            path, out = os.path.join(folder, name), os.path.join(folder, "fast.out")
+            done = subprocess.run([program, "faststart", path, out], capture_output=True, text=True, check=False)
+            has_movie = any(it.get("type") == "moov" for it in tree(data))
+            reason = REFUSED.get(name, "") if has_movie else "there is no moov"
+            refused += bool(reason)
+            with self.subTest(name):
+                self.assertEqual(done.returncode, int(bool(reason)), done.stderr)
+                if reason:
+                    self.assertIn(reason, done.stderr)
+                    continue
+                moved += " is moved " in done.stdout
+                self.assertEqual(len(read(out)), len(data))
+                self.assertEqual(hashes(out), hashes(path))
+        print(f"real files: faststart moves {moved} of them and refuses {refused}")
 
     def test_number_of_files(self):
         if shutil.which("ffmpeg") is None:

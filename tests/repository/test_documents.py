@@ -16,7 +16,7 @@
 - Tables: the eight counted tables and `trun` take their rows by `read_table` or `read_rows`, and these two functions
   take them by one call of `ByteCursor::take_rows`.
 - Descriptions: docs/boxes.json, docs/boxes.schema.json and docs/FIELDS.md are what tools/describe.py makes from the
-  declarations of the boxes.
+  declarations of the boxes. The classes for Python are what tools/python_classes.py makes from the first of them.
 - Lines: no line of a source or a document has more than 120 columns, except attributes, which `rt fmt` keeps on one
   line.
 
@@ -30,7 +30,7 @@ import unittest
 from pathlib import Path
 
 from tests.rows import rows
-from tools import describe
+from tools import describe, python_classes
 
 TOP = Path(__file__).resolve().parent.parent.parent
 WORDS = re.compile(r"\b(as of|the same|the record of|the name of|a clause for each)\b|^== of")
@@ -44,6 +44,8 @@ FUNCTION = re.compile(
     r"^( *).*?\bfn (\w+)((?:(?!\b(?:requires|ensures|where)\b)[^{;\[\]]|\[(?:[^\[\]]|\[[^\[\]]*\])*\])*)"
     rf"(?:where(?:(?!\brequires|\bensures)[^{{;])*)?((?:{CLAUSE}\s*)*)", re.M)
 IMPORT = re.compile(r"^\s*(?:ghost )?(?:pub )?use ([^;{]*?)(?:\{([^;]*)\}|(\w+))(?: as \w+)?;\n", re.M)
+# A path in backticks that begins with a folder of the top, except paths of built files and of a box `x`.
+PATH = re.compile(r"`((?:crates|docs|examples|tests|bench|include|tools)/(?!\S*/(?:out|[xX]\.))[\w./*-]+)`")
 told = []
 
 
@@ -174,8 +176,11 @@ def sentences(kinds):
     """Returns triples of a file, a sentence in which (n) stands for a number, and these numbers."""
     tests, (gate, script) = [name for name, _ in rows()], edits("*")
     header, changes = read(TOP / "include/mp4_box_codec.h"), read(TOP / "tests/prover/wrong-definitions.txt")
+    classes = python_classes.module().count("(Fields):\n")
     return [
         ("README.md", "the (n) of the crate `mp4`", kinds),
+        ("CHANGELOG.md", "a class with types for each of (n) types of boxes", classes),
+        ("docs/PYTHON.md", "There are classes for (n) types", classes),
         ("docs/ASSURANCE.md", "prover refuses (n) wrong .*? has the prover refuse (n) wrong bodies more", gate, script),
         ("docs/C.md", "`mp4_box_codec.h` declares (n) functions", header.count("\nuint32_t mp4_")),
         ("docs/OWN-BOX.md", "The codec reads (n) types of boxes", kinds),
@@ -270,7 +275,7 @@ def compare_version():
     version = read(TOP / "VERSION").strip()
     names = [("include/mp4_box_codec.h", r'^#define MP4_VERSION "(.*)"$'), ("CHANGELOG.md", r"^## ([^\s,]+)")]
     names += [(f"bindings/{it}", r'^version = "(.*)"$') for it in ("rust/Cargo.toml", "python/pyproject.toml")]
-    names += [("bindings/python/mp4_box_codec.py", r'^__version__ = "(.*)"$')]
+    names += [("bindings/python/mp4_box_codec/_library.py", r'^__version__ = "(.*)"$')]
     for name, pattern in names:
         said = re.search(pattern, read(TOP / name), re.M)
         if not said or said[1] != version:
@@ -287,14 +292,15 @@ def compare_links(file):
         there = (file.parent / m[1]).resolve() if m[1] else file
         if not there.exists() or m[2] and m[2] not in anchors(there):
             tell(file, m.start(), f"there is no {m[0][2:-1]}")
-    for m in re.finditer(r"`((?:crates|docs|tests|bench|include|tools)/(?!\S*/(?:out|[xX]\.))[\w./*-]+)`", read(file)):
+    for m in PATH.finditer(read(file)):
         if not any(TOP.glob(m[1].rstrip("/"))):
             tell(file, m.start(), f"there is no {m[1]}")
 
 
 def compare_widths():
     found = [*tree("crates/**/*.rt"), *tree("crates/**/*.antt"), *tree("include/*"), *tree("bench/**/*.rs")]
-    found += [*tree("bindings/**/*.py"), *tree("bindings/**/*.rs"), *tree("tests/**/*.py"), *tree("**/*.md")]
+    found += [*tree("bindings/**/*.py"), *tree("bindings/**/*.rs"), *tree("examples/**/*.py"), *tree("tests/**/*.py")]
+    found += [*tree("**/*.md")]
     found += [it for folder in ("bench", "tests", "tests/*", "tools") for it in tree(f"{folder}/*")
               if it.suffix not in (*TEXTS, ".py")]
     for file in found:
@@ -344,8 +350,9 @@ class Documents(unittest.TestCase):
         self.agree()
 
     def test_descriptions(self):
-        for path, text in describe.files().items():
-            self.assertEqual(read(TOP / path), text, f"{path}: run tools/describe.py --write")
+        for tool in (describe, python_classes):
+            for path, text in tool.files().items():
+                self.assertEqual(read(TOP / path), text, f"{path}: run {tool.__name__.replace('.', '/')}.py --write")
 
     def test_links(self):
         for file in tree("**/*.md"):

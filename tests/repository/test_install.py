@@ -66,7 +66,7 @@ def copied(folder):
     """Copies the files that an install needs to `folder`."""
     for name in ("crates.txt", "VERSION"):
         shutil.copy(os.path.join(TOP, name), folder)
-    for name in ("tools", "include", "docs/man"):
+    for name in ("tools", "include", "docs/man", "docs/completions"):
         shutil.copytree(os.path.join(TOP, name), os.path.join(folder, name))
     leave = shutil.ignore_patterns("out", "tests", "must-fail")
     shutil.copytree(os.path.join(TOP, "crates"), os.path.join(folder, "crates"), ignore=leave)
@@ -240,9 +240,12 @@ def found_by_rust(prefix, work):
     source, script = os.path.join(TOP, "bindings", "rust", "build.rs"), os.path.join(work, "build-script")
     subprocess.run(["rustc", "--edition", "2021", source, "-o", script], check=True)
     env = {"PATH": os.environ["PATH"], "PKG_CONFIG_PATH": os.path.join(prefix, "lib", "pkgconfig")}
-    said = subprocess.run([script], env=env, capture_output=True, text=True, check=False).stdout.split("\n")
-    if f"cargo:rustc-link-search=native={prefix}/lib" not in said:
-        fail(f"the build script of the Rust binding doesn't find the library in {prefix}: {said}")
+    # pkg-config does not name the folders that it takes for those of the system, such as that of a Debian package.
+    for system in ("/usr/lib", os.path.join(prefix, "lib")):
+        env["PKG_CONFIG_SYSTEM_LIBRARY_PATH"] = system
+        said = subprocess.run([script], env=env, capture_output=True, text=True, check=False).stdout.split("\n")
+        if f"cargo:rustc-link-search=native={prefix}/lib" not in said:
+            fail(f"the build script of the Rust binding doesn't find the library in {prefix}: {said}")
 
 
 def quoted(it, work):
@@ -293,7 +296,7 @@ def staged(it, work):
     for at, folders, files in os.walk(stage):
         for name in [".", *folders, *files]:
             path = os.path.join(at, name)
-            opened = name not in files or "/bin/" in path or ".so." in name
+            opened = name not in files or "/bin/" in path
             mode = os.lstat(path).st_mode & 0o777
             if not os.path.islink(path) and mode != (0o755 if opened else 0o644):
                 fail(f"{path} has the mode {mode:o}")
@@ -401,7 +404,7 @@ class Install(unittest.TestCase):
         exports(self.it)
 
     def test_installed_programs(self):
-        for name in ("mp4boxes", "mp4inspect"):
+        for name in ("mp4boxes", "mp4inspect", "mp4remux"):
             subprocess.run([os.path.join(self.it.prefix, "bin", name)], check=True, stdout=subprocess.DEVNULL)
 
     def test_missing_prover(self):

@@ -1,5 +1,4 @@
-pub mod ShownBlocks
-pub mod ShownChannels
 pub mod ShownColour
 pub mod ShownMapping
+pub mod ShownBlocks
 pub mod ShownStreams

@@ -1,5 +1,2 @@
 pub mod ShownAccesses
-pub mod ShownSystem
 pub mod ShownValue
-pub mod ItemId
-pub mod ShownItems

@@ -1,4 +1,3 @@
-pub mod Destination
 pub mod Heading
 pub mod Json
 pub mod Opened

@@ -1,9 +1,7 @@
 //! The program `mp4inspect` shows people what is in MP4 files: the tree of their boxes, as text or JSON, only their
-//! faults, or their samples. It also writes a file with its `moov` before its media data.
+//! faults, or their samples.
 #![tactic(auto)]
 
-mod destination;
-mod fast_start;
 mod mark;
 mod outcome;
 mod program;
@@ -15,7 +13,6 @@ mod words;
 
 use clap::Error;
 use clap::error::ErrorKind;
-use fast_start::fast_start;
 use mark::unreadable;
 use mp4_content::ShownBox;
 use mp4_inspect_samples::{Choice, Form};
@@ -24,7 +21,7 @@ use mp4_show::Look;
 use mp4_walk::Source;
 use outcome::{Outcome, is_silent};
 use program::{Show, inspect};
-use request::{Asked, FastStart, Request, Rows, Task, request_of};
+use request::{Request, Rows, Task, request_of};
 use source::{Kept, Reading, how_to_read, input_file};
 use std::alloc::AllocError;
 use std::env::VarError;
@@ -34,6 +31,8 @@ use std::process::ExitCode;
 use std::{env, fs, io};
 use words::{escaped, text_of_error, words_of};
 
+/// The exit status of a misuse, which `clap` uses too.
+const MISUSE: u8 = 2;
 /// The message for a name that is not UTF-8.
 const NOT_UTF_8: &str = "this name is not UTF-8, and only names that are can be opened";
 
@@ -308,21 +307,22 @@ fn show(rt: &HostRuntime, request: &Request) -> Result<Outcome, Failure> {
     Ok(outcome.ended_by(failure, is_closed))
 }
 
-/// Writes the requested file, if its names are UTF-8. Returns the exit status.
-fn write_file(rt: &HostRuntime, names: &FastStart) -> Result<u8, Failure> {
-    let (from, to) = (names.from.as_str(), names.to.as_str());
-    match unreadable(from).or(unreadable(to)) {
-        Some(shown) => Ok(refuse(rt, shown, NOT_UTF_8).status()),
-        None => fast_start(rt, from, to),
-    }
+/// Returns whether `words` are those of the command `faststart`, which `mp4remux` has.
+fn is_fast_start(words: &[String]) -> bool {
+    words.len() > 1 && words[1].as_str() == "faststart"
 }
 
 /// Carries out the command line, and returns the exit status.
 fn run(rt: &HostRuntime) -> Result<u8, Failure> {
     let words = words_of(rt)?;
+    if is_fast_start(words.as_slice()) {
+        let _ = eprintln!(rt;
+            "mp4inspect: faststart is a command of mp4remux: mp4remux faststart IN OUT"
+        );
+        return Ok(MISUSE);
+    }
     match request_of(rt.alloc(), words.as_slice()) {
-        Ok(Asked::Show(request)) => Ok(show(rt, &request)?.status()),
-        Ok(Asked::FastStart(names)) => write_file(rt, &names),
+        Ok(request) => Ok(show(rt, &request)?.status()),
         Err(error) => print_error(rt, &error),
     }
 }

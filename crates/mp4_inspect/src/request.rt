@@ -46,24 +46,6 @@ pub struct Request {
     pub files: Vec<String>,
 }
 
-/// The files of the command `faststart`.
-#[derive(Debug, Drop)]
-pub struct FastStart {
-    /// The name of the file to read.
-    pub from: String,
-    /// The name of the file to write.
-    pub to: String,
-}
-
-/// A request of a command line: to show files, or to write one.
-#[derive(Debug, Drop)]
-pub enum Asked {
-    /// Show the contents of files.
-    Show(Request),
-    /// Write a file with its movie box before its media data.
-    FastStart(FastStart),
-}
-
 /// Returns the argument for several files.
 fn files<'a>(alloc: Global) -> Arg<'a> {
     Arg::new(alloc, "FILE")
@@ -128,25 +110,6 @@ fn samples<'a>(alloc: Global) -> Result<Command<'a>, AllocError> {
         .arg(file(alloc))
 }
 
-/// Returns the argument `name` for one file.
-fn named<'a>(alloc: Global, name: &'a str, help: &'a str) -> Arg<'a> {
-    Arg::new(alloc, name).required(true).help(help)
-}
-
-/// Returns the command `faststart`.
-fn fast_start<'a>(alloc: Global) -> Result<Command<'a>, AllocError> {
-    Command::new(alloc, "faststart")
-        .about(
-            "Write a copy of a file with the moov before the media data, so that a player gets it first",
-        )
-        .arg(named(alloc, "IN", "File to read; it isn't changed"))?
-        .arg(named(
-            alloc,
-            "OUT",
-            "File to write, whole or not at all; an existing file is replaced",
-        ))
-}
-
 /// Returns the command line without its commands.
 fn tree<'a>(alloc: Global) -> Result<Command<'a>, AllocError> {
     let all = "Show all entries of lists";
@@ -168,8 +131,7 @@ fn tree<'a>(alloc: Global) -> Result<Command<'a>, AllocError> {
 fn command<'a>(alloc: Global) -> Result<Command<'a>, AllocError> {
     tree(alloc)?
         .subcommand(check(alloc)?)?
-        .subcommand(samples(alloc)?)?
-        .subcommand(fast_start(alloc)?)
+        .subcommand(samples(alloc)?)
 }
 
 /// Returns the names of the files in `matches`.
@@ -238,35 +200,18 @@ fn tree_of(alloc: Global, matches: &ArgMatches<'_>) -> Result<Request, AllocErro
     })
 }
 
-/// Returns the name of the file in the argument `id` of `matches`.
-fn name_of(alloc: Global, matches: &ArgMatches<'_>, id: &str) -> Result<String, AllocError> {
-    String::from_str(alloc, matches.get_str(id).unwrap_or(""))
-}
-
-/// Returns the request of the command `faststart`.
-fn fast_start_of(alloc: Global, matches: &ArgMatches<'_>) -> Result<FastStart, AllocError> {
-    Ok(FastStart {
-        from: name_of(alloc, matches, "IN")?,
-        to: name_of(alloc, matches, "OUT")?,
-    })
-}
-
 /// Returns the request in `matches`.
-fn all_asked(alloc: Global, matches: &ArgMatches<'_>) -> Result<Asked, AllocError> {
-    let request = match matches.subcommand() {
-        Some(("faststart", inner)) => {
-            return Ok(Asked::FastStart(fast_start_of(alloc, inner)?));
-        }
-        Some(("samples", inner)) => samples_of(alloc, inner)?,
-        Some((_, inner)) => check_of(alloc, inner)?,
-        None => tree_of(alloc, matches)?,
-    };
-    Ok(Asked::Show(request))
+fn asked(alloc: Global, matches: &ArgMatches<'_>) -> Result<Request, AllocError> {
+    match matches.subcommand() {
+        Some(("samples", inner)) => samples_of(alloc, inner),
+        Some((_, inner)) => check_of(alloc, inner),
+        None => tree_of(alloc, matches),
+    }
 }
 
 /// Returns the request of a command line. The first of its `words` is the program's name. An error has the text to
 /// print and the status with which the program ends: for misuse, the help or the version.
-pub fn request_of(alloc: Global, words: &[String]) -> Result<Asked, Error> {
+pub fn request_of(alloc: Global, words: &[String]) -> Result<Request, Error> {
     let matches = command(alloc)?.try_get_matches_from(words)?;
-    Ok(all_asked(alloc, &matches)?)
+    Ok(asked(alloc, &matches)?)
 }

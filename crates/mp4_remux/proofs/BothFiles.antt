@@ -16,9 +16,9 @@ use Rattle.mp4_movie.specs.declared.moof.MoofFragments.{MoofFragments}
 use Rattle.mp4_movie.specs.declared.info.TrackInfo.{TrackInfo}
 use Rattle.mp4_movie.specs.declared.sample_boxes.SampleBoxes.{SampleBoxes}
 use Rattle.mp4_movie.specs.declared.track_fragment.TrackFragment.{TrackFragment}
-use Rattle.mp4_pieces.specs.declared.piece.Piece.{Piece}
-use Rattle.mp4_pieces.specs.Pieces.{AreWithin, spelled}
-use Rattle.mp4_pieces.proofs.Bytes.{old_bytes, same_bytes}
+use Rattle.mp4_remux.specs.declared.pieces.piece.Piece.{Piece}
+use Rattle.mp4_remux.specs.Pieces.{AreWithin, spelled}
+use Rattle.mp4_remux.proofs.Bytes.{old_bytes, same_bytes}
 use Rattle.mp4_samples.specs.declared.sample.Sample.{Sample}
 use Rattle.mp4_samples.specs.declared.tables.Tables.{Tables}
 use Rattle.mp4_walk.specs.FileBoxes.{boxes_of}

@@ -1,3 +1,11 @@
+pub mod Bytes
+pub mod Runs
+pub mod Within
+pub mod PieceSteps
+pub mod Passed
+pub mod Plans
+pub mod Beginnings
+pub mod Windows
 pub mod Pairs
 pub mod Places
 pub mod Steps

@@ -3,14 +3,14 @@ use Rattle.std.proofs.Common.{◌≡◌, ℕ, ◌+◌, ◌<◌, ◌≤◌, List,
 use Rattle.std.proofs.Common.{subst, arith}
 use Rattle.std.specs.Prelude.{Result, IfOk, IfSome}
 use Rattle.std.specs.declared.option.Option.{Option}
-use Rattle.mp4_pieces.specs.declared.piece.Piece.{Piece}
+use Rattle.mp4_remux.specs.declared.pieces.piece.Piece.{Piece}
 use Rattle.mp4_samples.specs.declared.sample.Sample.{Sample}
 use Rattle.mp4_remux.specs.declared.media.Untold.{Untold}
 use Rattle.mp4_remux.specs.declared.kept.Pair.{Pair}
 use Rattle.mp4_remux.specs.declared.kept.Pair.TheVariants as pairs
 use Rattle.mp4_remux.specs.Media.{Gives}
-use Rattle.mp4_pieces.specs.Pieces.{AreWithin, spelled}
-use Rattle.mp4_pieces.proofs.Bytes.{same_bytes}
+use Rattle.mp4_remux.specs.Pieces.{AreWithin, spelled}
+use Rattle.mp4_remux.proofs.Bytes.{same_bytes}
 use Rattle.mp4_remux.specs.Kept.{AreAlike, IsCarried, KeepsSample, KeepsSamples, IsPair, Tells}
 
 module _ {T U : Type 0} (is : T → ℕ → Sample → Type 0) (count : T → ℕ) (are : U → ℕ → Sample → Type 0) (counts : U → ℕ)

@@ -5,10 +5,10 @@ use Rattle.std.specs.declared.option.Option.{Option}
 use Rattle.std.proofs.KnownBytes.{Appends-nil}
 use Rattle.std.specs.Io.KnownBytes.{Appends}
 use Rattle.mp4_io.specs.declared.failure.Failure.{Failure}
-use Rattle.mp4_pieces.proofs.Beginnings.{nothing}
-use Rattle.mp4_pieces.specs.declared.piece.Piece.{Piece}
-use Rattle.mp4_pieces.specs.Pieces.{AreWithin, spelled}
-use Rattle.mp4_pieces.specs.Written.{Wrote}
+use Rattle.mp4_remux.proofs.Beginnings.{nothing}
+use Rattle.mp4_remux.specs.declared.pieces.piece.Piece.{Piece}
+use Rattle.mp4_remux.specs.Pieces.{AreWithin, spelled}
+use Rattle.mp4_remux.specs.WrittenPieces.{Wrote}
 use Rattle.mp4_remux.specs.Whole.{KeepsMedia}
 use Rattle.mp4_remux.specs.Written.{WroteChecked}
 use Rattle.mp4_remux.specs.declared.refusal.Stop.{Stop}

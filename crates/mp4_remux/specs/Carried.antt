@@ -10,7 +10,7 @@ use Rattle.mp4_movie.specs.declared.error.BoxError.{BoxError}
 use Rattle.mp4_movie.specs.declared.info.TrackInfo.{TrackInfo}
 use Rattle.mp4_movie.specs.declared.sample_boxes.SampleBoxes.{SampleBoxes}
 use Rattle.mp4_movie.specs.declared.track_fragment.TrackFragment.{TrackFragment}
-use Rattle.mp4_pieces.specs.declared.piece.Piece.{Piece}
+use Rattle.mp4_remux.specs.declared.pieces.piece.Piece.{Piece}
 use Rattle.mp4_samples.specs.declared.tables.Tables.{Tables}
 use Rattle.mp4_remux.specs.Kept.{KeepsSamples}
 use Rattle.mp4_remux.specs.Told.{AreTables, IsTeller, IsTold, at_track, count}

@@ -2,8 +2,8 @@
 use Rattle.std.specs.Prelude.{ℕ, ◌≡◌, ◌+◌, ◌<◌, ◌≤◌, List, None, Some, Ok, Err, Result}
 use Rattle.std.specs.declared.option.Option.{Option}
 use Rattle.mp4_remux.specs.declared.media.Untold.{Untold}
-use Rattle.mp4_pieces.specs.declared.piece.Piece.{Piece}
-use Rattle.mp4_pieces.specs.Pieces.{Carries}
+use Rattle.mp4_remux.specs.declared.pieces.piece.Piece.{Piece}
+use Rattle.mp4_remux.specs.Pieces.{Carries}
 use Rattle.mp4_samples.specs.declared.sample.Sample.{Sample}
 use Rattle.mp4_remux.specs.declared.kept.Pair.{Pair}
 use Rattle.mp4_remux.specs.declared.kept.Pair.TheVariants as pairs

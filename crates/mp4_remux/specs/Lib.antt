@@ -1,3 +1,9 @@
+pub mod Pieces
+pub mod Plans
+pub mod NewFiles
+pub mod Holes
+pub mod PieceLaws
+pub mod WrittenPieces
 pub mod Media
 pub mod Kept
 pub mod Fragments

@@ -2,9 +2,9 @@
 use Rattle.std.specs.Prelude.{ℕ, List, [], Result, Ok, Err}
 use Rattle.std.specs.declared.option.Option.{Option}
 use Rattle.std.specs.Io.KnownBytes.{Appends}
-use Rattle.mp4_pieces.specs.declared.piece.Piece.{Piece}
-use Rattle.mp4_pieces.specs.Pieces.{spelled}
-use Rattle.mp4_pieces.specs.Written.{Begins}
+use Rattle.mp4_remux.specs.declared.pieces.piece.Piece.{Piece}
+use Rattle.mp4_remux.specs.Pieces.{spelled}
+use Rattle.mp4_remux.specs.WrittenPieces.{Begins}
 use Rattle.mp4_remux.specs.Whole.{KeepsMedia}
 use Rattle.mp4_remux.specs.declared.refusal.Stop.{Stop}
 use Rattle.mp4_remux.specs.declared.refusal.Stop.TheVariants.{Refused, Failed}

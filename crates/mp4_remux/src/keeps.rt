@@ -1,17 +1,17 @@
 //! Whether a new file keeps the media of an old one.
 
 ghost use Rattle.std.specs.Prelude.{◌≡◌, ℕ, IfOk, IfSome, OnOk, length};
-ghost use Rattle.mp4_pieces.specs.Pieces.{AreWithin, spelled};
+ghost use Rattle.mp4_remux.specs.Pieces.{AreWithin, spelled};
 ghost use Rattle.mp4_remux.specs.Carried.{CarriesMedia};
 ghost use Rattle.mp4_remux.specs.Groups.{in_group};
 ghost use Rattle.mp4_remux.specs.Told.{AreFragmentsOf};
 ghost use Rattle.mp4_remux.specs.Whole.{KeepsMedia};
 
 use crate::groups::{Groups, fragments_of};
+use crate::pieces::Plan;
 use crate::refusal::{Refusal, Stop, TrackPlace, in_fragments};
 use crate::track::{check_track, same_id};
 use mp4_movie::Movie;
-use mp4_pieces::Plan;
 use mp4_walk::Source;
 use std::alloc::Global;
 

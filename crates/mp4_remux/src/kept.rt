@@ -5,7 +5,7 @@ ghost use Rattle.mp4_remux.specs.declared.kept.Pair.TheVariants.{Same};
 ghost use Rattle.mp4_remux.specs.Kept.{AreAlike, IsCarried, IsPair, KeepsSamples, Tells};
 
 use crate::media::{Media, Untold};
-use mp4_pieces::Plan;
+use crate::pieces::Plan;
 use mp4_samples::Sample;
 
 /// The first sample that is not kept.

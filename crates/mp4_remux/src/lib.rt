@@ -6,6 +6,7 @@ mod groups;
 mod keeps;
 mod kept;
 mod media;
+pub mod pieces;
 mod refusal;
 mod teller;
 mod track;

@@ -10,11 +10,11 @@ ghost use Rattle.mp4_remux.specs.Tracks.{IsGoing, number_of_track, teller_of};
 ghost use Rattle.mp4_remux.specs.Whole.{SameAnswer};
 
 use crate::kept::keeps_samples;
+use crate::pieces::Plan;
 use crate::refusal::{Refusal, Stop, TrackPlace, in_track};
 use crate::track_samples::TrackSamples;
 use mp4_frame::FourCC;
 use mp4_movie::{BoxError, Movie, SampleBoxes, TrackFragment, TrackInfo};
-use mp4_pieces::Plan;
 use mp4_samples::Tables;
 use mp4_walk::Source;
 use std::alloc::Global;

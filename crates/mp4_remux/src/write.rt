@@ -1,15 +1,15 @@
 //! Writing a new file that keeps the media of an old one.
 
 ghost use Rattle.std.specs.Prelude.{◌≡◌, Some, IfOk, IfSome};
-ghost use Rattle.mp4_pieces.specs.Pieces.{spelled};
+ghost use Rattle.mp4_remux.specs.Pieces.{spelled};
 ghost use Rattle.mp4_remux.specs.Whole.{KeepsMedia};
 ghost use Rattle.mp4_remux.specs.Written.{WroteChecked};
 
 use crate::keeps::keeps_media;
+use crate::pieces::{Plan, write_pieces};
 use crate::refusal::{Refusal, Stop};
 use mp4_io::Output;
 use mp4_movie::Movie;
-use mp4_pieces::{Plan, write_pieces};
 use mp4_walk::Source;
 use std::alloc::Global;
 use std::io::Write;

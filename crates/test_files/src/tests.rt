@@ -4,7 +4,6 @@ mod boxes;
 mod compact_sizes;
 mod disagreements;
 mod edits;
-mod faststart;
 mod fragments;
 mod tables;
 mod track;

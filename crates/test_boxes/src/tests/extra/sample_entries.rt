@@ -174,13 +174,12 @@ fn fields_of_video(rt: HostRuntime) {
 #[test]
 fn fields_of_audio(rt: HostRuntime) {
     let alloc = rt.alloc();
-    let zero = sound(AudioVersion::Zero);
     let checks = [
-        is_audio(alloc, OPUS, ZERO, Some(zero)),
+        is_audio(alloc, OPUS, ZERO, Some(sound(AudioVersion::Zero))),
         is_audio(alloc, OPUS, FIRST, Some(sound(OF_FIRST))),
         is_audio(alloc, OPUS, SECOND, Some(sound(OF_SECOND))),
-        is_audio(alloc, OPUS, THIRD, Some(zero)),
-        audio_is(alloc, zero, ZERO),
+        is_audio(alloc, OPUS, THIRD, Some(sound(AudioVersion::Zero))),
+        audio_is(alloc, sound(AudioVersion::Zero), ZERO),
         audio_is(alloc, sound(OF_FIRST), FIRST),
         audio_is(alloc, sound(OF_SECOND), SECOND),
     ];

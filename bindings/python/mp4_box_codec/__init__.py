@@ -1,0 +1,56 @@
+"""Reads and writes the boxes of MP4 files (ISO/IEC 14496-12) by libmp4_box_codec.
+
+>>> movie = bytes.fromhex("00000020 6d6f6f76 00000008 7472616b 00000010 7472616b 00000008 6d646961")
+>>> from mp4_box_codec import File, Ftyp, read
+>>> [box.path for box in File(movie).walk()]
+['moov', 'moov/trak', 'moov/trak[1]', 'moov/trak[1]/mdia']
+>>> Ftyp(major_brand="isom", minor_version=512, compatible_brands=["avc1"]).write().hex(" ", 4)
+'00000014 66747970 69736f6d 00000200 61766331'
+>>> read(bytes.fromhex("00000010 70617370 00000004 00000003"))
+Pasp(hSpacing=4, vSpacing=3)
+
+A fault is an Mp4Error, with its position and path if the bytes are of a file:
+
+>>> File(bytes.fromhex("00000010 6d6f6f76 00000008 6d766864"))["moov/mvhd"].fields
+Traceback (most recent call last):
+mp4_box_codec.Mp4Error: moov/mvhd at 8: unexpected end of input
+
+`calls` has a function for each call of the library. Their names are also names of this module, such as
+`mp4_box_codec.tree`, but `import *` doesn't take them.
+"""
+
+from . import calls
+from ._entries import SoundEntry, VisualEntry
+from ._fields import Fields, Matrix, Part, container, read
+from ._library import __version__ as __version__
+from .classes import *  # noqa: F401,F403 pylint: disable=wildcard-import,unused-wildcard-import
+from .calls import (
+    BOX_NOT_FOUND, CUT, END_OF_INPUT, INVALID_DATA, LEAF, NO_HEADER, NO_ROOM, NO_TRACK, OK, OUT_OF_MEMORY, PARENT,
+    SMALL, TABLES, TOO_DEEP, UNKNOWN_BOX, CttsRow, ElstRow, Mp4Error, Place, Sample, Span, StscRow, SttsRow, TrunRow,
+    avc1, avcc, boxes, check, co64, ctts, data, dinf, dref, elst, emsg, esds, fields, find, fragment_samples, ftyp,
+    hdlr, hev1, hvcc, list, mdhd, mehd, mfhd, mp4a, mvhd, normal, samples, smhd, status_text, stco, stsc, stsd, stss,
+    stsz, stts, tables, tfdt, tfhd, tkhd, tree, trex, trun, tx3g, url, version, vmhd, vp09, vpcc, write_co64,
+    write_ctts, write_dref, write_elst, write_emsg, write_ftyp, write_hdlr, write_mdhd, write_mehd, write_mfhd,
+    write_mvhd, write_smhd, write_stco, write_stsc, write_stsd, write_stss, write_stsz, write_stts, write_tfdt,
+    write_tfhd, write_tkhd, write_trex, write_trun, write_vmhd)
+from ._file import Box, Fault, File, units
+from ._samples import Samples
+from ._track import Track
+from ._writer import TrackWriter, Writer
+
+Mp4Error.__module__ = __name__
+__all__ = [
+    "Box", "CttsRow", "ElstRow", "Fault", "Fields", "File", "Matrix", "Mp4Error", "Part", "Sample", "Samples",
+    "SoundEntry", "StscRow", "SttsRow", "Track", "TrackWriter", "TrunRow", "VisualEntry", "Writer", "calls",
+    "container", "read", "units",
+]
+# The names of `classes`. tools/python_classes.py writes them here too, since type checkers read them here.
+__all__ += [
+    "Av1C", "Avc1", "AvcC", "Btrt", "Clap", "Clli", "Co64", "Colr", "Cslg", "Ctts", "DOps", "Dac3", "Data", "Dec3",
+    "Dec3Substreams", "DfLa", "DfLaMetadataBlocks", "Dinf", "Dref", "Elng", "Elst", "Emsg", "Esds", "Frma", "Ftyp",
+    "Hdlr", "Hev1", "HvcC", "HvcCArrays", "Keys", "KeysEntries", "Kind", "Mdcv", "Mdhd", "Mehd", "Mfhd", "Mfro", "Mp4a",
+    "Mvhd", "Nmhd", "Pasp", "Prft", "Pssh", "Saio", "Saiz", "Sbgp", "SbgpEntries", "Schm", "Sdtp", "SdtpEntries",
+    "Senc", "Sgpd", "SgpdEntries", "Sidx", "SidxReferences", "Smhd", "Stco", "Stpp", "Stsc", "Stsd", "Stss", "Stsz",
+    "Stts", "Styp", "Stz2", "Subs", "SubsEntries", "SubsEntriesSubsamples", "Tenc", "Tfdt", "Tfhd", "Tfra",
+    "TfraEntries", "Tkhd", "Tref", "TrefReferences", "Trex", "Trun", "Tx3g", "Url", "Vmhd", "Vp09", "VpcC", "Wvtt",
+]

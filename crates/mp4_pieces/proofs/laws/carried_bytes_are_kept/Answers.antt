@@ -1,5 +1,0 @@
-use Rattle.mp4_pieces.proofs.Bytes.{same_bytes, old_bytes}
-use Rattle.mp4_pieces.proofs.laws.carried_bytes_are_kept.Goals as goal
-
-pub returns : goal.returns
-returns c = record { same = same_bytes; within = old_bytes }

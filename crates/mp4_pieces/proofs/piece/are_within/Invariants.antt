@@ -1,6 +1,0 @@
--- The pieces that are passed are within.
-use Rattle.mp4_pieces.proofs.Within.{AreFirstWithin}
-use Rattle.mp4_pieces.proofs.piece.are_within.Given as goal
-
-abbrev pub invariant-loop-piece : goal.invariant-loop-piece
-invariant-loop-piece l = AreFirstWithin l.length l.pieces l.piece-index

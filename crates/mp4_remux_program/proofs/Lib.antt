@@ -1,0 +1,4 @@
+pub mod Files
+pub mod Boxes
+pub mod Plans
+pub mod Writing

@@ -1,0 +1,346 @@
+//! Reading a file and writing a new one. It writes a new file beside the target and renames it once it is complete, so
+//! the target is whole or unchanged.
+
+use crate::destination::{Destination, Node, NodeKind, choose_destination, partial_beside};
+use crate::movement::Move;
+use crate::outcome::Outcome;
+use crate::progress::Progress;
+use crate::refusal::Stop;
+use crate::source::Kept;
+use crate::words::{MISUSE, escaped};
+use crate::write::write_fast_start;
+use mp4_io::{Failure, Output, Steady, is_closed_pipe};
+use std::fs::{File, Metadata, OpenOptions, Permissions};
+use std::io::{ErrorKind, IsTerminal, Write};
+use std::os::unix::fs::{MetadataExt, OpenOptionsExt, PermissionsExt};
+use std::path::{Path, PathBuf};
+use std::{fs, io};
+
+/// The names of the two files.
+#[derive(Clone, Copy)]
+struct Names<'a> {
+    /// The name of the file that is read.
+    pub from: &'a str,
+    /// The name of the file that is written.
+    pub to: &'a str,
+    /// `from` with its control characters escaped, for messages.
+    pub shown_from: &'a str,
+    /// `to` with its control characters escaped, for messages.
+    pub shown_to: &'a str,
+}
+
+/// The file that is read, opened twice, since the old file and the new one are read at the same time.
+#[derive(Drop)]
+struct Opened {
+    /// The file.
+    pub first: Kept<File>,
+    /// The same file.
+    pub second: Kept<File>,
+    /// The length of the file.
+    pub length: u64,
+    /// Its permissions.
+    pub mode: u32,
+}
+
+/// Prints to standard error what is wrong with a file. Its name in messages is `shown`.
+fn tell(rt: &HostRuntime, shown: &str, error: &io::Error) -> Outcome {
+    let _ = eprintln!(rt; "mp4remux: {shown}: {error}");
+    Outcome::Failed
+}
+
+/// Prints to standard error that reading or writing failed, with the system's reason if there is one.
+fn tell_failure(rt: &HostRuntime, shown: &str, failure: Failure, reason: Option<io::Error>) {
+    let _ = match reason {
+        Some(error) => eprintln!(rt; "mp4remux: {shown}: {failure}: {error}"),
+        None => eprintln!(rt; "mp4remux: {shown}: {failure}"),
+    };
+}
+
+/// Returns the last error of reading.
+fn read_error(opened: Opened) -> Option<io::Error> {
+    let Opened {
+        first,
+        second,
+        length: _,
+        mode: _,
+    } = opened;
+    match first.error {
+        Some(error) => Some(error),
+        None => second.error,
+    }
+}
+
+/// Prints to standard error why a file was not written. `opened` and `write_error` have the last errors of both files.
+fn tell_stop(
+    rt: &HostRuntime,
+    names: Names<'_>,
+    stop: &Stop,
+    opened: Opened,
+    write_error: Option<io::Error>,
+) {
+    match stop {
+        Stop::Refused(refusal) => {
+            let _ = eprintln!(rt; "mp4remux: {}: {refusal}", names.shown_from);
+        }
+        Stop::Failed(Failure::Write) => {
+            tell_failure(rt, names.shown_to, Failure::Write, write_error);
+        }
+        Stop::Failed(Failure::Read) => {
+            tell_failure(rt, names.shown_from, Failure::Read, read_error(opened));
+        }
+        Stop::Failed(Failure::Memory) => {
+            tell_failure(rt, names.shown_from, Failure::Memory, None);
+        }
+    }
+}
+
+/// Returns the node at the name `to`, or `None` if there is none. Follows a symbolic link.
+fn node_at(rt: &HostRuntime, to: &str) -> io::Result<Option<Node>> {
+    match fs::metadata(rt, to) {
+        Ok(metadata) => Ok(Some(Node::new(&metadata))),
+        Err(error) if error.kind() == ErrorKind::NotFound => Ok(None),
+        Err(error) => Err(error),
+    }
+}
+
+/// Returns whether the name `to` is a symbolic link.
+fn is_link(rt: &HostRuntime, to: &str) -> bool {
+    match fs::symlink_metadata(rt, to) {
+        Ok(metadata) => metadata.is_symlink(),
+        Err(_) => false,
+    }
+}
+
+/// Returns the path of the file that is written for the name `to`. Follows a symbolic link, so that the link stays.
+fn path_of(rt: &HostRuntime, to: &str, destination: Destination) -> io::Result<PathBuf> {
+    match destination {
+        Destination::Named => Ok(Path::new(to).to_path_buf(rt.alloc())?),
+        Destination::Linked => fs::canonicalize(rt, to),
+    }
+}
+
+/// Creates a file beside `target` with the first free number, so a file that an earlier run left behind is skipped.
+/// Only its owner may open the new file.
+fn create_beside(rt: &HostRuntime, target: &str) -> io::Result<(File, PathBuf)> {
+    let mut options = OpenOptions::new();
+    options.write(true).create_new(true).mode(0o600);
+    for number in 0..u32::MAX {
+        let path = partial_beside(rt.alloc(), target, number)?;
+        match options.open(rt, &path) {
+            Ok(file) => return Ok((file, path)),
+            Err(error) if error.kind() == ErrorKind::AlreadyExists => {}
+            Err(error) => return Err(error),
+        }
+    }
+    Err(io::Error::from(ErrorKind::AlreadyExists))
+}
+
+/// Writes everything, and removes the line of the progress.
+fn write_everything<W: Write>(
+    rt: &HostRuntime,
+    first: &mut Kept<File>,
+    second: &mut Kept<File>,
+    output: &mut Output<Steady<Progress<W>>>,
+) -> Result<Option<Move>, Stop> {
+    let run = write_fast_start(rt.alloc(), first, second, output);
+    output.inner.inner.clear();
+    run
+}
+
+/// Writes everything into a new file.
+fn write_file(
+    rt: &HostRuntime,
+    opened: &mut Opened,
+    output: &mut Output<Steady<Progress<File>>>,
+) -> Result<Option<Move>, Stop> {
+    let done = write_everything(rt, &mut opened.first, &mut opened.second, output)?;
+    if let Err(error) = output.inner.inner.inner.sync_all() {
+        output.inner.error = Some(error);
+        return Err(Stop::Failed(Failure::Write));
+    }
+    Ok(done)
+}
+
+/// Prints what was written to the file whose name in messages is `shown`. A reader who has closed the pipe does without
+/// the line.
+fn tell_done(rt: &HostRuntime, shown: &str, done: Option<Move>) -> Result<Outcome, Failure> {
+    let printed = match done {
+        Some(moved) => println!(rt;
+            "{shown}: moov is moved from {} to {}",
+            moved.begin, moved.insert
+        ),
+        None => println!(rt; "{shown}: a copy, as no media data are before the moov"),
+    };
+    match printed {
+        Ok(()) => Ok(Outcome::Written),
+        Err(error) if is_closed_pipe(&error) => Ok(Outcome::Written),
+        Err(_) => Err(Failure::Write),
+    }
+}
+
+/// Gives the new file at `partial` the permissions of the file that is read, and renames it to `target`.
+fn put_in_place(
+    rt: &HostRuntime,
+    partial: &PathBuf,
+    target: &str,
+    permissions: Permissions,
+) -> io::Result<()> {
+    fs::set_permissions(rt, partial, permissions)?;
+    fs::rename(rt, partial, target)
+}
+
+/// Writes the new file to the path `target`, first into a file of another name. The new file gets the permissions of
+/// the file that is read.
+fn write_to(
+    rt: &HostRuntime,
+    names: Names<'_>,
+    target: &str,
+    mut opened: Opened,
+) -> Result<Outcome, Failure> {
+    let (file, partial) = match create_beside(rt, target) {
+        Ok(created) => created,
+        Err(error) => return Ok(tell(rt, names.shown_to, &error)),
+    };
+    let permissions = Permissions::from_mode(opened.mode & 0o777);
+    let mut output = Output::new(Steady::new(Progress::new(rt, file, opened.length)));
+    let run = write_file(rt, &mut opened, &mut output);
+    let outcome = Outcome::of_run(&run);
+    let done = match run {
+        Ok(done) => done,
+        Err(stop) => {
+            let _ = fs::remove_file(rt, &partial);
+            tell_stop(rt, names, &stop, opened, output.inner.error);
+            return Ok(outcome);
+        }
+    };
+    if let Err(error) = put_in_place(rt, &partial, target, permissions) {
+        let _ = fs::remove_file(rt, &partial);
+        return Ok(tell(rt, names.shown_to, &error));
+    }
+    tell_done(rt, names.shown_to, done)
+}
+
+/// Writes the new file to the file to which the name `names.to` leads. The file that is read is the node `source`.
+fn write_named(
+    rt: &HostRuntime,
+    names: Names<'_>,
+    opened: Opened,
+    source: Node,
+) -> Result<Outcome, Failure> {
+    let found = match node_at(rt, names.to) {
+        Ok(found) => found,
+        Err(error) => return Ok(tell(rt, names.shown_to, &error)),
+    };
+    let is_linked = is_link(rt, names.to);
+    let destination = match choose_destination(source.id, is_linked, found) {
+        Ok(destination) => destination,
+        Err(obstacle) => {
+            let _ = eprintln!(rt; "mp4remux: {}: {obstacle}", names.shown_to);
+            return Ok(Outcome::Failed);
+        }
+    };
+    match path_of(rt, names.to, destination) {
+        Ok(target) => write_to(rt, names, target.as_str(), opened),
+        Err(error) => Ok(tell(rt, names.shown_to, &error)),
+    }
+}
+
+/// Writes the new file to the standard output.
+fn write_to_pipe(rt: &HostRuntime, names: Names<'_>, mut opened: Opened) -> Outcome {
+    let mut output = Output::new(Steady::new(Progress::new(rt, rt.stdout(), opened.length)));
+    let run = write_everything(rt, &mut opened.first, &mut opened.second, &mut output);
+    let outcome = Outcome::of_run(&run);
+    if let Err(stop) = run {
+        tell_stop(rt, names, &stop, opened, output.inner.error);
+    }
+    outcome
+}
+
+/// Opens the file with this metadata twice.
+fn open_twice(rt: &HostRuntime, name: &str) -> io::Result<(Opened, Metadata)> {
+    let first = fs::open(rt, name)?;
+    let second = fs::open(rt, name)?;
+    let metadata = first.metadata()?;
+    if Node::new(&second.metadata()?) != Node::new(&metadata) {
+        return Err(io::Error::from(ErrorKind::NotFound));
+    }
+    let opened = Opened {
+        length: metadata.len(),
+        mode: metadata.mode(),
+        first: Kept::new(first),
+        second: Kept::new(second),
+    };
+    Ok((opened, metadata))
+}
+
+/// Opens the file that is read, and returns it with its node. If that fails or it is not a regular file, prints a line
+/// to standard error and returns `None`. A FIFO is not opened, since that would wait for a writer.
+fn open_source(rt: &HostRuntime, names: Names<'_>) -> Option<(Opened, Node)> {
+    let shown = names.shown_from;
+    let opened = match fs::metadata(rt, names.from) {
+        Ok(metadata) => {
+            let kind = Node::new(&metadata).kind;
+            if kind != NodeKind::File {
+                let _ = eprintln!(rt;
+                    "mp4remux: {shown}: this is a {kind}; IN must be a regular file"
+                );
+                return None;
+            }
+            open_twice(rt, names.from)
+        }
+        Err(error) => Err(error),
+    };
+    match opened {
+        Ok((opened, metadata)) => Some((opened, Node::new(&metadata))),
+        Err(error) => {
+            tell(rt, shown, &error);
+            None
+        }
+    }
+}
+
+/// Prints a misuse of the command line to standard error, and returns its status.
+fn misuse(rt: &HostRuntime, what: &str) -> u8 {
+    let _ = eprintln!(rt; "mp4remux: -: {what}");
+    MISUSE
+}
+
+/// Returns whether `from` can be read twice. If it is `-`, prints a misuse to standard error.
+fn is_input(rt: &HostRuntime, from: &str) -> bool {
+    if from == "-" {
+        misuse(
+            rt,
+            "IN must be a file, since it is read twice; ./- is a file of this name",
+        );
+        return false;
+    }
+    true
+}
+
+/// Writes the file `from` with its `moov` before its media data to the file `to`, or leaves `to` as it was. If `to` is
+/// `-`, writes to the standard output. Returns the exit status: 1 if `from` is refused, and 2 if `from` is `-`.
+pub fn rewrite(rt: &HostRuntime, from: &str, to: &str) -> Result<u8, Failure> {
+    if !is_input(rt, from) {
+        return Ok(MISUSE);
+    }
+    if to == "-" && rt.stdout().is_terminal() {
+        return Ok(misuse(
+            rt,
+            "the standard output is a terminal; ./- is a file of this name",
+        ));
+    }
+    let (shown_from, shown_to) = (escaped(rt.alloc(), from)?, escaped(rt.alloc(), to)?);
+    let names = Names {
+        from,
+        to,
+        shown_from: shown_from.as_str(),
+        shown_to: shown_to.as_str(),
+    };
+    let Some((opened, node)) = open_source(rt, names) else {
+        return Ok(Outcome::Failed.status());
+    };
+    if to == "-" {
+        return Ok(write_to_pipe(rt, names, opened).status());
+    }
+    Ok(write_named(rt, names, opened, node)?.status())
+}

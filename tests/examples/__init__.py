@@ -1,0 +1,1 @@
+"""The examples of the folder `examples`, each run as a user does."""
