@@ -24,10 +24,10 @@ mod write;
 use mark::unreadable;
 use mp4_io::Failure;
 use outcome::Outcome;
-use request::{Request, request_of};
+use request::{Request, requested};
 use rewriting::rewrite;
 use std::process::ExitCode;
-use words::{NOT_UTF_8, print_error, words_of};
+use words::NOT_UTF_8;
 
 /// Prints to standard error that a name is not UTF-8, if one of the names of files is not. Returns whether it did.
 fn tell_names(rt: &HostRuntime, from: &str, to: &str) -> bool {
@@ -51,10 +51,9 @@ fn write_file(rt: &HostRuntime, request: &Request) -> Result<u8, Failure> {
 
 /// Carries out the command line, and returns the exit status.
 fn run(rt: &HostRuntime) -> Result<u8, Failure> {
-    let words = words_of(rt)?;
-    match request_of(rt.alloc(), words.as_slice()) {
+    match requested(rt)? {
         Ok(request) => write_file(rt, &request),
-        Err(error) => print_error(rt, &error),
+        Err(status) => Ok(status),
     }
 }
 

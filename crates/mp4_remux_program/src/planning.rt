@@ -3,13 +3,11 @@
 ghost use Rattle.std.specs.Prelude.{◌≡◌, ◌++◌, ℕ, List, length, IfOk, IfSome, OnOk};
 ghost use Rattle.mp4_remux_program.specs.Moved.{moved_file};
 ghost use Rattle.mp4_remux_program.specs.Written.{PlansMove, movie_of};
-ghost use Rattle.mp4_remux_program.specs.Movie.{IsMovieAfter};
 ghost use Rattle.mp4_remux.specs.Pieces.{bytes_of, spelled};
 
-use crate::compare::is_movie_after;
 use crate::movement::Move;
-use crate::rebuild::rebuilt;
-use crate::refusal::{Refusal, Stop};
+use crate::rebuild::moved_movie;
+use crate::refusal::Stop;
 use mp4_io::Failure;
 use mp4_remux::pieces::{Piece, Plan, PlanError};
 use mp4_walk::Source;
@@ -81,18 +79,6 @@ fn movie_of<S: Source>(alloc: Global, source: &mut S, shift: Move) -> Result<Vec
     bytes.resize(shift.end.saturating_sub(shift.begin) as usize, 0)?;
     source.read_at(shift.begin, &mut bytes)?;
     Ok(bytes)
-}
-
-/// Returns the movie box `movie` as it is after the move.
-fn moved_movie(alloc: Global, movie: &[u8], shift: Move) -> Result<Vec<u8>, Stop>
-    ensures { IfOk result (λ made. IsMovieAfter shift movie.now made.items) }
-{
-    let made = rebuilt(alloc, movie, shift)?;
-    if is_movie_after(alloc, movie, made.as_slice(), shift)? {
-        Ok(made)
-    } else {
-        Err(Stop::Refused(Refusal::Changed(shift.begin)))
-    }
 }
 
 /// Plans a source of length `size` with `movie` as its movie box at the new place, twice.

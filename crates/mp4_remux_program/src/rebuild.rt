@@ -1,6 +1,9 @@
-//! A copy of a movie box as it is after the move. No clause describes it, since `compare` checks it.
+//! A copy of a movie box as it is after the move. No clause describes how it is made, since `compare` checks it.
 
-use crate::compare::{boxes_in, is_unread, own_of};
+ghost use Rattle.std.specs.Prelude.{IfOk};
+ghost use Rattle.mp4_remux_program.specs.Movie.{IsMovieAfter};
+
+use crate::compare::{boxes_in, is_movie_after, is_unread, own_of};
 use crate::movement::Move;
 use crate::obstacle::Obstacle;
 use crate::offsets::{OffsetTable, has_offsets, table_in};
@@ -338,7 +341,7 @@ fn push_box(bytes: &mut Vec<u8>, layout: &Layout<'_>, found: &TreeBox) -> Result
 
 /// Returns a copy of the movie box `movie` as it is after the move. A `stco` with an offset that would not fit becomes
 /// a `co64`.
-pub fn rebuilt(alloc: Global, movie: &[u8], shift: Move) -> Result<Vec<u8>, Stop> {
+fn rebuilt(alloc: Global, movie: &[u8], shift: Move) -> Result<Vec<u8>, Stop> {
     let boxes = boxes_in(alloc, movie)?;
     let growths = needed_growths(alloc, movie, boxes.as_slice(), shift)?;
     let length = (movie.len() as u64).saturating_add(growth_of_all(&growths));
@@ -358,4 +361,16 @@ pub fn rebuilt(alloc: Global, movie: &[u8], shift: Move) -> Result<Vec<u8>, Stop
         return Err(Stop::Refused(Refusal::Steps(shift.begin)));
     }
     Ok(bytes)
+}
+
+/// Returns the movie box `movie` as it is after the move.
+pub fn moved_movie(alloc: Global, movie: &[u8], shift: Move) -> Result<Vec<u8>, Stop>
+    ensures { IfOk result (λ made. IsMovieAfter shift movie.now made.items) }
+{
+    let made = rebuilt(alloc, movie, shift)?;
+    if is_movie_after(alloc, movie, made.as_slice(), shift)? {
+        Ok(made)
+    } else {
+        Err(Stop::Refused(Refusal::Changed(shift.begin)))
+    }
 }

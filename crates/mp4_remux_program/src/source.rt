@@ -1,6 +1,6 @@
 //! A source that stores its errors.
 
-ghost use Rattle.std.specs.Prelude.{◌≡◌};
+ghost use Rattle.std.specs.Prelude.{◌≡◌, None};
 
 use mp4_walk::Source;
 use std::io;
@@ -16,7 +16,10 @@ pub struct Kept<S: Source> {
 
 impl<S: Source> Kept<S> {
     /// Returns a source over `inner`, of which no call has failed.
-    pub fn new(inner: S) -> Self {
+    pub fn new(inner: S) -> Self
+        ensures source { result.inner ≡ inner }
+        ensures error { result.error ≡ None }
+    {
         Kept { inner, error: None }
     }
 }
