@@ -27,8 +27,6 @@ TOP = os.path.dirname(os.path.dirname(os.path.abspath(__file__)))
 SOURCES = "crates/mp4_extra_*/src/*.rt"
 COMMON = ("crates/mp4_shown/src/*.rt", SOURCES)
 CODES = "crates/mp4_frame/src/codes.rt"
-# The list of the boxes that are shown by their declarations.
-SHOWN = "crates/mp4_show_extra/src/fields.rt"
 DESCRIPTION = "docs/boxes.json"
 SCHEMA = "docs/boxes.schema.json"
 PAGE = "docs/FIELDS.md"
@@ -134,8 +132,10 @@ class Source:
         """Returns the value of a constant of this file, or of the one that has it."""
         if name in self.constants:
             return self.resolved(Expression(self.constants[name]).value())
+        module = next((of for of, names in re.findall(r"\buse crate::(\w+)::\{?([^;}]*)\}?;", self.text)
+                       if name in re.findall(r"\w+", names)), None)
         for other in sources():
-            if name in other.constants and other is not self:
+            if name in other.constants and other is not self and other.path.endswith(f"/{module}.rt" if module else ""):
                 return other.constant(name)
         raise Unknown(f"{self.path}: no constant {name}")
 
@@ -396,11 +396,11 @@ class Walk:
 
     def widths(self, struct, count, size):
         """Returns the widths of the numbers of an entry, in bits."""
-        impl = re.search(rf"impl EntryLayout<{count}, {size}> for {struct} \{{(.*?)(?= impl |$)", self.source.text)
-        if not impl:
-            raise Unknown(f"{self.source.path}: no EntryLayout<{count}, {size}> for {struct}")
-        name = re.search(r"fn widths\(\) -> \[u8; \w+\] \{ (\w+) \}", impl[1])[1]
-        return self.source.constant(name)
+        for source in (self.source, *sources()):
+            impl = re.search(rf"impl EntryLayout<{count}, {size}> for {struct} \{{(.*?)(?= impl |$)", source.text)
+            if impl:
+                return source.constant(re.search(r"fn widths\(\) -> \[u8; \w+\] \{ (\w+) \}", impl[1])[1])
+        raise Unknown(f"{self.source.path}: no EntryLayout<{count}, {size}> for {struct}")
 
     def entry(self, struct):
         """Returns the fields of an entry, or its kind."""
@@ -413,8 +413,14 @@ class Walk:
         return self.fields(self.source.types[shape], self.source.constant(names))
 
     def condition(self, shape):
-        name, ((argument, _),) = shape
-        return {"FromVersion": f"version >= {argument}", "IfFlags": f"flags & {int(argument, 0):#x}"}[name]
+        name, arguments = shape
+        argument = arguments[0][0] if arguments else ""
+        if name == "VersionZero":
+            return "version is 0"
+        if name == "FromVersion":
+            return f"version >= {argument}"
+        flags = f"flags & {int(argument, 0):#x}"
+        return f"{flags} is 0" if name == "WithoutFlags" else flags
 
 
 # ---- Shapes of one box each: the fields that they show, which a function of the box hands to a sink
@@ -492,7 +498,18 @@ def descriptions(walk):
     return found
 
 
+def protection_system(_, names):
+    known = {"name": names[1], "kind": "text", "of": names[0], "optional": True}
+    return [{"name": names[0], "kind": "bytes", "length": 16}, known]
+
+
+def item_id(_, names):
+    return [{**field, "bits_by_version": [16, 32]} for field in number(names, 32)]
+
+
 OWN = {
+    "ItemId": item_id,
+    "ProtectionSystem": protection_system,
     "ChannelMapping": channel_mapping, "BlockData": flac_block_data, "Country": locale, "Language": locale,
     "TypedValue": typed_value, "SampleSizes": sample_sizes,
 }
@@ -504,9 +521,9 @@ BOXES = {"Colr": colours}
 
 
 def box_in(source):
-    """Returns the description of the box that a file declares, or `None` if its fields are not shown by declaration."""
+    """Returns the description of the box that a file declares, or `None` if it declares none."""
     declared = re.search(r"impl DeclaredBox for (\w+) ", source.text)
-    if not declared or f"ExtraBox::{declared[1]}Box(b) => put_declared(b, sink)" not in read(SHOWN):
+    if not declared:
         return None
     name = declared[1]
     code = codes()[re.search(r"const CODE: u32 = codes::(\w+);", source.text)[1]]
@@ -519,7 +536,7 @@ def box_in(source):
     else:
         shape, names = re.search(
             rf"impl HasFields for {name} \{{ ghost shown = "
-            r"\{ λ view b\. ⟦<(\w+) as NamedShape>⟧\.shown (\w+) view",
+            r"\{ λ view b\. (?:shown_by )?⟦<(\w+) as NamedShape>⟧\.shown (\w+) view",
             source.text).groups()
         fields = walk.fields(source.types[shape], source.constant(names))
     alias = re.search(rf"pub type (\w+) = (?:Declared|Checked)<{name}>;", source.text)[1]
@@ -568,11 +585,22 @@ def value_schema(field):
     raise Unknown(f"the kind {kind}")
 
 
+def either(one, other):
+    """Returns the schema of the values of both schemas, which differ only in their ranges."""
+    if not isinstance(one, dict):
+        return one
+    widest = {"minimum": min, "maximum": max}
+    return {key: widest.get(key, either)(it, other[key]) for key, it in one.items()}
+
+
 def schema_of(fields):
-    """Returns the schema of an object with these fields."""
+    """Returns the schema of an object with these fields. A field may have other widths under other conditions."""
     required = [field["name"] for field in fields if not field.get("optional") and "when" not in field]
-    return {"type": "object", "properties": {field["name"]: value_schema(field) for field in fields},
-            "required": required, "additionalProperties": False}
+    found = {}
+    for field in fields:
+        name, schema = field["name"], value_schema(field)
+        found[name] = either(found[name], schema) if name in found else schema
+    return {"type": "object", "properties": found, "required": required, "additionalProperties": False}
 
 
 def description():
@@ -642,7 +670,8 @@ def rows_of(fields, before=""):
 def page():
     found = [HEAD]
     for box in boxes():
-        found.append(f"## `{box['code']}`\n\n{box['title']} ({box['standard']}).\n\nIn Rattle it is a "
+        title = textwrap.fill(f"{box['title']} ({box['standard']}).", WIDTH)
+        found.append(f"## `{box['code']}`\n\n{title}\n\nIn Rattle it is a "
                      f"[`{box['type']}`](../{box['source']}).\n\nfield | kind | present\n---|---|---\n"
                      + "\n".join(rows_of(box["fields"])) + "\n")
     return "\n".join(found)

@@ -45,6 +45,8 @@ BOXES = [
     # reserved bits of two kinds
     full_box(1, 0, b"sgpd", b"seig", u32(20, 1), b"\xff\x19\1\x08", bytes(16)),
     full_box(1, 0, b"sgpd", b"tele", u32(1, 1), b"\xff"),
+    # the system Widevine
+    full_box(0, 0, b"pssh", bytes.fromhex("edef8ba979d64acea3c827dcd51d21ed"), u32(1), b"\1"),
     # three sizes of four bits
     full_box(0, 0, b"stz2", u32(4, 3), b"\x12\x34"),
     # numbers of one, two and three bytes, and reserved bits

@@ -106,7 +106,7 @@ def quicktime():
     second = be(4, 72) + bytes.fromhex("40e7700000000000") + be(4, 6, 0x7F000000, 24, 12, 18, 1)
     entries = [sound(b"sowt", 0, 2, 16, 44100 << 16, b"", b""),
                sound(b"mp4a", 1, 2, 16, 44100 << 16, be(4, 1024, 0, 0, 2), wave),
-               sound(b"lpcm", 2, 3, 16, 0x10000, second, box(b"chan", bytes(12)))]
+               sound(b"lpcm", 2, 3, 16, 0x10000, second, box(b"flap", bytes(12)))]
     text = box(b"text", bytes(6) + be(2, 1) + bytes(43))
     meta = box(b"meta", handler(b"mdta", b"") + box(b"keys", bytes(8)))
     udta = box(b"udta", meta + box(b"\xa9nam", b"\0\3\0\0abc") + box(b"\xa9day", b"\0\4\0\x002024") + bytes(4))
@@ -357,7 +357,9 @@ def subtitles():
     code = front + be(4, 0, 3, 30000, 1001) + bytes([30, 0]) + box(b"name", be(2, 4, 0) + b"Reel")
     text = front + be(4, 1, -1) + be(2, *range(1, 8)) + bytes(8) + be(2, 8, 9) + bytes(3) + be(2, 10, 11, 12)
     look = full(b"tcmi", 0, 0, be(2, 1, 2, 3, 0) + be(2, *range(4, 10)) + b"\4Font")
-    media = box(b"gmhd", full(b"gmin", 0, 0, bytes(12)) + box(b"tmcd", look) + box(b"text", be(4, 0x10000, *range(8))))
+    place = be(4, 0x10000, 0x8000, 0, -0x8000, 0x20000, 0, 0x50000, -0x60000, 0x40000000)
+    graphics = full(b"gmin", 0, 0, be(2, 64, 0x8000, 0x8001, 0x8002, 0xFE80, 0))
+    media = box(b"gmhd", graphics + box(b"tmcd", look) + box(b"text", place))
     codes = [box(b"tmcd", code), box(b"tmcd", front[:7])]
     words = [box(b"text", text + b"\4Text"), box(b"text", front[:7])]
     tracks = [track(1, b"subt", b"", b"und", xml, b""), track(2, b"text", b"", b"und", texts, b""),

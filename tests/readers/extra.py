@@ -1,7 +1,7 @@
 """The part of the slow reader for boxes other than those of the codec. It has their fields as mp4inspect shows them,
-under the names of the standards, and as the struct has them. It follows ISO/IEC 14496-12, 14496-30, 23001-7, ETSI TS
-102 366, QuickTime's format, and the bindings of AV1, Opus and FLAC, in the sections that crates/mp4_extra/CALLING.md
-names.
+under the names of the standards, and as the struct has them. It follows ISO/IEC 14496-12, 14496-14, 14496-15, 14496-30,
+23001-7, 23008-12, ETSI TS 102 366, QuickTime's format, iTunes, and the bindings of AV1, Opus, FLAC, Apple Lossless and
+Dolby Vision, in the sections that crates/mp4_extra/CALLING.md names.
 """
 
 from tests.readers.headers import Fault, check
@@ -210,6 +210,38 @@ class Content:
         self.put(name, entries)
 
 
+# The channels of a sound (QuickTime File Format, "Audio channel layout atom"). The letters are those of Core Audio.
+LAYOUTS = {
+    0: "channel descriptions", 0x10000: "channel bitmap", 0x640001: "mono", 0x650002: "stereo",
+    0x660002: "stereo headphones", 0x670002: "matrix stereo", 0x680002: "mid-side", 0x690002: "XY",
+    0x6A0002: "binaural", 0x6B0004: "Ambisonic B-format", 0x6C0004: "quadraphonic", 0x710003: "L R C",
+    0x720003: "C L R", 0x730004: "L R C Cs", 0x740004: "C L R Cs", 0x750005: "L R C Ls Rs", 0x760005: "L R Ls Rs C",
+    0x770005: "L C R Ls Rs", 0x780005: "C L R Ls Rs", 0x790006: "L R C LFE Ls Rs", 0x7A0006: "L R Ls Rs C LFE",
+    0x7B0006: "L C R Ls Rs LFE", 0x7C0006: "C L R Ls Rs LFE", 0x7D0007: "L R C LFE Ls Rs Cs",
+    0x7E0008: "L R C LFE Ls Rs Lc Rc", 0x7F0008: "C Lc Rc L R Ls Rs LFE", 0x800008: "L R C LFE Ls Rs Rls Rrs"}
+LABELS = {
+    0: "unused", 1: "left", 2: "right", 3: "centre", 4: "LFE", 5: "left surround", 6: "right surround",
+    7: "left centre", 8: "right centre", 9: "centre surround", 10: "left surround direct",
+    11: "right surround direct", 12: "top centre surround", 13: "vertical height left", 14: "vertical height centre",
+    15: "vertical height right", 16: "top back left", 17: "top back centre", 18: "top back right",
+    33: "rear surround left", 34: "rear surround right", 42: "mono", 100: "by coordinates", 0xFFFFFFFF: "unknown"}
+
+
+def alac(c):
+    c.full(1)
+    c.numbers("4 frameLength, 1 compatibleVersion, 1 bitDepth, 1 pb, 1 mb, 1 kb, 1 numChannels, 2 maxRun,"
+              "4 maxFrameBytes, 4 avgBitRate, 4 sampleRate")
+    if c.raw or c.room():
+        c.bytes("ALACChannelLayoutInfo [channel_layout_info]")
+
+
+def auxc(c):
+    c.full(1)
+    c.terminated("aux_type")
+    if c.raw or c.room():
+        c.bytes("aux_subtype")
+
+
 def av1c(c):
     c.bits("1 marker, 7 version, 3 seq_profile, 5 seq_level_idx_0, 1 seq_tier_0, 1 high_bitdepth, 1 twelve_bit,"
            "1 monochrome, 1 chroma_subsampling_x, 1 chroma_subsampling_y, 2 chroma_sample_position, 3 -reserved=0,"
@@ -219,6 +251,35 @@ def av1c(c):
         if reserved:
             c.put("reserved_without_delay", reserved)
     c.bytes("configOBUs")
+
+
+def channel(d):
+    d.numbers("4 mChannelLabel [channel_label], 4 mChannelFlags [channel_flags]")
+    d.named({"mChannelLabel": LABELS})
+    for which in range(3):
+        number = d.number(4)
+        d.put(f"mCoordinates_{which} [coordinates_{which}]", number if d.raw else Hex(f"{number:08x}"))
+
+
+def chan(c):
+    c.full(1)
+    c.numbers("4 mChannelLayoutTag [channel_layout_tag], 4 mChannelBitmap [channel_bitmap]")
+    c.named({"mChannelLayoutTag": LAYOUTS})
+    count = c.count(4, 20)
+    if not c.raw:
+        c.put("mNumberChannelDescriptions", count)
+    c.put("mChannelDescriptions [channel_descriptions]", [c.entry(channel) for _ in range(count)])
+
+
+def chnl(c):
+    version, _ = c.full(2)
+    if version:
+        c.bits("4 stream_structure, 4 format_ordering, 8 baseChannelCount")
+    else:
+        c.numbers("1 stream_structure")
+    c.named({"stream_structure": {1: "channels", 2: "objects", 3: "channels and objects"}})
+    if c.raw or c.room():
+        c.bytes("data_bytes [layout]")
 
 
 # The meanings of the numbers of colours (ISO/IEC 23091-2, 8.1 to 8.3).
@@ -367,9 +428,49 @@ def dops(c):
         c.bytes("data_bytes")
 
 
+# The formats of the base layer of Dolby Vision.
+BASES = {0: "none", 1: "HDR10", 2: "SDR", 4: "HLG", 6: "Ultra HD Blu-ray HDR10"}
+
+
+def dolby_vision(c):
+    c.bits("8 dv_version_major, 8 dv_version_minor, 7 dv_profile, 6 dv_level, 1 rpu_present_flag, 1 el_present_flag,"
+           "1 bl_present_flag, 4 dv_bl_signal_compatibility_id, 28 -reserved=0")
+    c.named({"dv_bl_signal_compatibility_id": BASES})
+    c.reserved(16)
+
+
 def elng(c):
     c.full(1)
     c.string("extended_language")
+
+
+# The orders of two fields (QuickTime File Format, "Video sample description extensions").
+ORDERS = {1: "top field first", 6: "bottom field first", 9: "bottom field shown first, top field stored first",
+          14: "top field shown first, bottom field stored first"}
+
+
+def enda(c):
+    c.numbers("2 littleEndian")
+    c.named({"littleEndian": {0: "big-endian", 1: "little-endian"}})
+
+
+def fiel(c):
+    c.numbers("1 fields, 1 detail")
+    c.named({"fields": {1: "progressive", 2: "interlaced"}, "detail": ORDERS})
+
+
+def gmin(c):
+    c.full(1)
+    c.numbers("2 graphicsmode [graphics_mode], 2 opcolor_red, 2 opcolor_green, 2 opcolor_blue, i2 balance")
+    if not c.raw:
+        c.fields["balance"] /= 256
+    c.reserved(2)
+
+
+def hmhd(c):
+    c.full(1)
+    c.numbers("2 maxPDUsize, 2 avgPDUsize, 4 maxbitrate, 4 avgbitrate")
+    c.reserved(4)
 
 
 def hvcc(c):
@@ -398,6 +499,67 @@ def nal_units(array):
     array.put("nalUnit [nal_units]", units)
 
 
+def iloc(c):
+    version, _ = c.full(3)
+    c.bits("4 offset_size, 4 length_size, 4 base_offset_size, 4 index_size")
+    c.numbers(f"{4 if version >= 2 else 2} item_count")
+    if c.raw or c.room():
+        c.bytes("data_bytes [items]")
+
+
+def infe(c):
+    version, _ = c.full(4)
+    c.numbers(f"{4 if version >= 3 else 2} item_ID, 2 item_protection_index")
+    kind = c.code("item_type") if version >= 2 else None
+    c.terminated("item_name")
+    if c.raw:
+        c.bytes("strings")
+    elif kind == "mime":
+        c.string("content_type")
+    elif kind == "uri ":
+        c.string("item_uri_type")
+    elif c.room():
+        c.bytes("data_bytes")
+
+
+def iods(c):
+    c.full(1)
+    c.bytes("OD [descriptor]")
+
+
+def ipma(c):
+    version, flags = c.full(2)
+    wide = flags & 1
+
+    def item(i):
+        i.numbers(f"{4 if version else 2} item_ID")
+        found = []
+        for _ in range(i.count(1, 1 + wide)):
+            one = Content(i.data)
+            one.at = i.at
+            one.bits(f"1 essential, {15 if wide else 7} property_index")
+            i.at = one.at
+            i.written += one.written
+            found.append(one.fields)
+        i.put(f"associations [{'long_' * wide}associations]", found)
+
+    count = c.number(4)
+    if not c.raw:
+        c.put("entry_count", count)
+    c.put("entries", [c.entry(item) for _ in range(count)])
+
+
+def irot(c):
+    c.bits("6 -reserved=0, 2 angle")
+    c.named({"angle": {
+        0: "none", 1: "90 degrees anticlockwise", 2: "180 degrees", 3: "270 degrees anticlockwise"}})
+
+
+def ispe(c):
+    c.full(1)
+    c.numbers("4 image_width, 4 image_height")
+
+
 def key(k):
     k.code("Key_namespace [namespace]")
     k.put_string("Key_value [value]", k.rest())
@@ -417,6 +579,18 @@ def kind(c):
     c.terminated("value")
 
 
+def item_text(c):
+    c.full(1)
+    c.put_string("value", c.rest())
+
+
+def leva(c):
+    c.full(1)
+    c.numbers("1 level_count")
+    if c.raw or c.room():
+        c.bytes("data_bytes [levels]")
+
+
 def mdcv(c):
     for which in range(3):
         c.numbers(",".join(f"2 display_primaries_{axis}_{which} [display_primaries_{which}_{axis}]" for axis in "xy"))
@@ -428,14 +602,37 @@ def mfro(c):
     c.numbers("4 parent_size")
 
 
+def pitm(c):
+    version, _ = c.full(2)
+    c.numbers(f"{4 if version else 2} item_ID")
+
+
+def pixi(c):
+    c.full(1)
+    bits = list(c.take(c.count(1, 1, "bytes")))
+    if c.raw or bits:
+        c.put("bits_per_channel", bits)
+
+
 def prft(c):
     version, _ = c.full(2)
     c.numbers(f"4 reference_track_ID, 8 ntp_timestamp, {8 if version else 4} media_time")
 
 
+# Protection systems (DASH-IF, "Content protection").
+SYSTEMS = {
+    "edef8ba979d64acea3c827dcd51d21ed": "Widevine", "9a04f07998404286ab92e65be0885f95": "PlayReady",
+    "94ce86fb07ff4f43adb893d2fa968ca2": "FairPlay", "1077efecc0b24d02ace33c1e52e2fb4b": "Common",
+    "e2719d58a985b3c9781ab030af78d30e": "ClearKey",
+}
+
+
 def pssh(c):
     version, _ = c.full(2)
-    c.put("SystemID", c.as_bytes(c.take(16)))
+    system = c.take(16)
+    c.put("SystemID", c.as_bytes(system))
+    if not c.raw and system.hex() in SYSTEMS:
+        c.put("SystemID_name", SYSTEMS[system.hex()])
     if version:
         c.put("KID [key_ids]", [c.as_bytes(c.take(16)) for _ in range(c.count(4, 16))])
     c.put("Data [system_data]", c.as_bytes(c.take(c.count(4, 1, "bytes"))))
@@ -564,6 +761,27 @@ def boxes_after(c):
         c.bytes("data_bytes [boxes]")
 
 
+def srat(c):
+    c.full(1)
+    c.numbers("4 sampling_rate")
+
+
+def ssix(c):
+    c.full(1)
+
+    def subsegment(s):
+        count = s.count(4, 4)
+        if not s.raw:
+            s.put("range_count", count)
+        s.rows("ranges", count, "1 level, 3 range_size")
+
+    count = c.number(4)
+    if not c.raw:
+        c.put("subsegment_count", count)
+    found = [c.entry(subsegment) for _ in range(count)]
+    c.put("subsegments", [it["ranges"] for it in found] if c.raw else found)
+
+
 def stpp(c):
     entry_front(c)
     for name in ("namespace", "schema_location", "auxiliary_mime_types"):
@@ -611,6 +829,13 @@ def subs(c):
     c.put("entries", [c.entry(sample) for _ in range(count)])
 
 
+def tcmi(c):
+    c.full(1)
+    c.numbers("2 text_font, 2 text_face, 2 text_size")
+    if c.raw or c.room():
+        c.bytes("data_bytes [rest]")
+
+
 def tenc(c):
     version, _ = c.full(2)
     c.reserved(1)
@@ -625,6 +850,13 @@ def tenc(c):
     elif c.room():
         c.numbers("1 default_constant_IV_size")
         c.bytes("default_constant_IV")
+
+
+def text(c):
+    c.numbers(",".join(f"i4 {letter}" for letter in "abucdvxyw"))
+    if not c.raw:
+        for letter in "abucdvxyw":
+            c.fields[letter] /= 2**30 if letter in "uvw" else 2**16
 
 
 def tfra(c):
@@ -656,12 +888,24 @@ def tref(c):
     c.put("references", found)
 
 
+def vvcc(c):
+    c.full(1)
+    c.bits("5 -reserved=31, 2 LengthSizeMinusOne, 1 ptl_present_flag")
+    if c.raw or c.room():
+        c.bytes("data_bytes [record]")
+
+
 def wvtt(c):
     entry_front(c)
     boxes_after(c)
 
 
 MORE = {
+    "alac": alac, "chan": chan, "chnl": chnl, "dvcC": dolby_vision, "dvvC": dolby_vision, "enda": enda, "fiel": fiel,
+    "mean": item_text, "name": item_text, "srat": srat, "vvcC": vvcc,
+    "auxC": auxc, "iloc": iloc, "infe": infe, "ipma": ipma, "irot": irot, "ispe": ispe, "pitm": pitm, "pixi": pixi,
+    "imir": lambda c: c.bits("7 -reserved=0, 1 axis"), "sthd": lambda c: c.full(1),
+    "gmin": gmin, "hmhd": hmhd, "iods": iods, "leva": leva, "ssix": ssix, "tcmi": tcmi, "text": text,
     "av1C": av1c, "colr": colr, "cslg": cslg, "data": data, "dec3": dec3, "dfLa": dfla, "dOps": dops, "elng": elng,
     "hvcC": hvcc, "keys": keys, "kind": kind, "mdcv": mdcv,
     "mfro": mfro, "prft": prft, "pssh": pssh, "saio": saio, "saiz": saiz, "sbgp": sbgp, "schm": schm, "sdtp": sdtp,

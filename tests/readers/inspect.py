@@ -164,6 +164,19 @@ def front_text(data):
     return f'"{text}"' if is_text else text
 
 
+def is_another(name, parent):
+    """Returns whether a box with the code `name` in a box with the code `parent` is another one than the box that is
+    read: an `mp4a` in a `wave`, an `alac` in an `stsd`, a `text` outside of a `gmhd`, or a `mean` or `name` outside of
+    an item of iTunes."""
+    if name == b"mp4a":
+        return parent == b"wave"
+    if name == b"alac":
+        return parent == b"stsd"
+    if name == b"text":
+        return parent != b"gmhd"
+    return name in (b"mean", b"name") and parent != b"----"
+
+
 class Walk:
     """A walk over the boxes of a file."""
 
@@ -197,7 +210,7 @@ class Walk:
             parts = [digits[:8], digits[8:12], digits[12:16], digits[16:20], digits[20:]]
             return {"fields": {"usertype": "-".join(parts)}}
         is_read = latin(name) in READERS or latin(name) in MORE
-        if not is_read or name == b"mp4a" and parent == b"wave":
+        if not is_read or is_another(name, parent):
             if parent != b"stsd":
                 return {}
             fields = self.brief(name, content, end, parent, front, stsd_version)
@@ -329,7 +342,14 @@ FLAGS = {
     "trun": {1: "data_offset", 4: "first_sample_flags", 0x100: "sample_duration", 0x200: "sample_size",
              0x400: "sample_flags", 0x800: "sample_composition_time_offset"},
     "url ": {1: "same_file"}, "saio": {1: "aux_info_type"}, "saiz": {1: "aux_info_type"}, "schm": {1: "scheme_uri"},
-    "senc": {2: "UseSubSampleEncryption"},
+    "senc": {2: "UseSubSampleEncryption"}, "infe": {1: "hidden"}, "ipma": {1: "property_index of 15 bits"},
+}
+# The channels of a sound, each with its bit (QuickTime File Format, "Audio channel layout atom").
+CHANNELS = {
+    1: "left", 2: "right", 4: "centre", 8: "LFE", 0x10: "left surround", 0x20: "right surround", 0x40: "left centre",
+    0x80: "right centre", 0x100: "centre surround", 0x200: "left surround direct", 0x400: "right surround direct",
+    0x800: "top centre surround", 0x1000: "vertical height left", 0x2000: "vertical height centre",
+    0x4000: "vertical height right", 0x8000: "top back left", 0x10000: "top back centre", 0x20000: "top back right",
 }
 SAMPLE_FLAGS = {"default_sample_flags", "first_sample_flags", "sample_flags", "flags"}
 KINDS = {"vide": "video", "soun": "sound", "text": "text", "sbtl": "subtitles", "subt": "subtitles", "clcp": "captions",
@@ -420,6 +440,10 @@ def value_text(name, value, within):
         return flags_text(value, 6, FLAGS.get(within, {}))
     if name in SAMPLE_FLAGS:
         return flags_text(value, 8, {0x10000: "non_sync"})
+    if name == "mChannelBitmap":
+        return flags_text(value, 8, CHANNELS)
+    if name == "mChannelFlags":
+        return flags_text(value, 8, {1: "rectangular", 2: "spherical", 4: "metres"})
     if name in ("display_flags", "format_specific_flags", "general_profile_compatibility_flags"):
         return flags_text(value, 8, {})
     if name == "media_time":

@@ -16,7 +16,7 @@ LETTERS = {"0": "\0", "n": "\n", "r": "\r", "t": "\t"}
 FAULTS = {"InvalidData": "Invalid", "BoxNotFound": "NotFound"}
 CODES = {
     "major_brand", "compatible_brands", "handler_type", "data_format", "grouping_type", "scheme_type", "aux_info_type",
-    "reference_type", "namespace",
+    "reference_type", "namespace", "item_type",
 }
 # Fields with the same names that are not codes: a number, and a string.
 NO_CODES = {("SidxEntry", "reference_type"), ("Stpp", "namespace")}

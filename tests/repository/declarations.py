@@ -19,7 +19,7 @@ FIELDS = {
     **NUMBERS, "Time": "t", "SignedTime": "t, signed", "Code": "code", "Codes": "to the end; each code",
     "Numbers": "to the end; each 4", "Rest": "to the end", "Terminated": "to a byte of 0",
 }
-VERSIONS = {1: "version 0", 2: "version 0 or 1", 3: "version 0 to 2"}
+VERSIONS = {1: "version 0", 2: "version 0 or 1", 3: "version 0 to 2", 4: "version 0 to 3"}
 # An item of the list: a code, its section, and its parts. Its lines are joined first.
 ROW = re.compile(r"^- `(.{4})` \(([^()\n]+)\): (.+)$", re.M)
 
@@ -33,18 +33,26 @@ def read(path):
         return file.read()
 
 
+def plain(source):
+    """Returns `source` without comments, on one line."""
+    return re.sub(r"\s+", " ", re.sub(r"^\s*//.*$", "", source, flags=re.M))
+
+
 class Declared:
     """The declaration of one box, in its file."""
 
     def __init__(self, path):
-        source = re.sub(r"\s+", " ", re.sub(r"^\s*//.*$", "", read(path), flags=re.M))
+        own = read(path)
+        others = re.findall(r"^use crate::(\w+)::", own, re.M)
+        others = [read(os.path.join(os.path.dirname(path), f"{it}.rt")) for it in others]
+        source = " ".join(map(plain, [own, *others]))
         self.source = source
         self.types = {name: type_of(text) for name, text in re.findall(r"\btype (\w+) = ([^;]*);", source)}
         name, owner = re.search(r"impl DeclaredBox for (\w+) .*? type Shape = (\w+);", source).groups()
         self.shape = self.types[owner]
         self.fields = self.fields_of(name)
         self.code = codes()[re.search(r"const CODE: u32 = codes::(\w+);", source)[1]]
-        self.section = re.search(rf"/// .*?\(`{self.code}`, ([^)]*)\)", read(path))[1]
+        self.section = re.search(rf"/// .*?\(`{self.code}`, ([^)]*)\)", own)[1]
 
     def is_of_section(self, section):
         """Returns whether the struct names `section`, of ISO/IEC 14496-12 unless the section names another source."""
@@ -128,6 +136,8 @@ class Declared:
             return self.held(self.types[name])
         if name in FIELDS and not inside:
             return FIELDS[name]
+        if name == "ItemId":
+            return f"2 before version {names[0]}, else 4"
         if name == "Array":
             return f"{names[0]} bytes"
         if name == "Bits":
@@ -162,8 +172,11 @@ class Declared:
         return own[1] if own else NUMBERS[count]
 
     def condition(self, shape):
-        name, ((number, _),) = shape
-        return {"FromVersion": f"from version {number}", "IfFlags": f"flag {number}"}[name]
+        name, inside = shape
+        if name == "VersionZero":
+            return "version 0"
+        words = {"FromVersion": "from version", "IfFlags": "flag", "WithoutFlags": "without flag"}
+        return f"{words[name]} {inside[0][0]}"
 
 
 def declarations():

@@ -6,13 +6,14 @@ fields in the slow reader, and its rows are below. In each other file of the cra
 of the lines of an existing box, with the names of the new one. A file that the page doesn't name is left unchanged, so
 a step that is missing there fails here. The test proves nothing, and takes some minutes.
 
-It counts the lines that the box takes: those of src/ and specs/, after `rt fmt`, that are neither blank nor comments.
-More than MOST is a failure.
+It counts the lists in src/, specs/ and proofs/ that get an entry, and the lines that the box takes: those of src/ and
+specs/, after `rt fmt`, that are neither blank nor comments. More than MOST_LISTS or MOST is a failure.
 
 With TEST_KEEP=FOLDER the copy is made in that folder, and stays.
 """
 import concurrent.futures
 import glob
+import itertools
 import os
 import re
 import shutil
@@ -27,6 +28,8 @@ MAP = os.path.join(TOP, "docs", "internals", "MAP.md")
 NEW = "padb"
 # The box whose lines are copied.
 LIKE = "mfro"
+# The largest number of lists of the crates, besides that of the codes, that a box may need an entry in.
+MOST_LISTS = 12
 # The largest number of lines of code and definitions that a box of a few numbers may take.
 MOST = 70
 # The function of the slow reader that reads the fields.
@@ -155,48 +158,31 @@ def names(text):
     return text
 
 
-def other_names():
-    """Returns the names of the other boxes, as words of Rust."""
-    with open(os.path.join(TOP, "crates", "mp4_extra", "src", "lib.rt"), encoding="utf-8") as source:
-        codes = re.findall(r"^pub use \w+::\w+::(\w+)Box;", source.read(), re.M)
-    return set(codes) - {LIKE.capitalize()}
-
-
-def with_line(line, others):
-    """Returns the lines for `line` and the new box: the line and a copy for the new box, or one line with one more name
-    if others share it."""
-    if names(line) == line:
-        return [line]
-    words = {word.removeprefix("put_").removesuffix("Box").capitalize() for word in re.findall(r"\w+", line)}
-    if not words & others:
-        return [line, names(line)]
-    between = " ∷ " if "∷" in line else ", " if "," in line else " "
-    item = rf"(?i:[\w.]*(?<![^\W_]){LIKE}(?:box)?\b[\w.]*)"
-    return [re.sub(item, lambda it: f"{it[0]}{between}{names(it[0])}", line)]
-
-
-def with_lines(text):
-    """Returns `text` with a copy for the new box after each line and each impl of the old box."""
-    like = LIKE.capitalize()
-    impl = re.compile(rf"^impl [^\n]*\b{like}Box\b.*?^}}\n\n?", re.M | re.S)
-    others, lines = other_names(), []
-    for piece in re.split(rf"({impl.pattern})", text, flags=re.M | re.S):
-        if impl.fullmatch(piece):
-            lines.append(piece + names(piece))
-        else:
-            lines.append("\n".join(it for line in piece.split("\n") for it in with_line(line, others)))
-    return "".join(lines)
+def with_copies(text):
+    """Returns `text` with a copy for the new box after each run of lines and each impl of the old box, and the number
+    of copies."""
+    impl = rf"^impl [^\n]*\b{LIKE.capitalize()}(?:Box)?\b.*?^}}\n\n?"
+    pieces, copies = [], 0
+    for piece in re.split(f"({impl})", text, flags=re.M | re.S):
+        is_impl = re.fullmatch(impl, piece, re.M | re.S)
+        for is_old, lines in itertools.groupby(piece.splitlines(True), lambda it: bool(is_impl) or names(it) != it):
+            old = "".join(lines)
+            pieces.append(old + names(old) if is_old else old)
+            copies += is_old
+    return "".join(pieces), copies
 
 
 def with_answers(text):
-    """Returns `text`, a file of proofs, with an answer for the new box after each answer of the old box."""
+    """Returns `text`, a file of proofs, with an answer for the new box after each answer of the old box, and 1 if it
+    has some."""
     answers = text.split("\n\n")
-    return "\n\n".join(it if names(it) == it else f"{it}\n\n{names(it)}" for it in answers)
+    return "\n\n".join(it if names(it) == it else f"{it}\n\n{names(it)}" for it in answers), text != names(text)
 
 
 def add(folder):
-    """Adds the box in a copy. Returns the files that were touched."""
-    touched = []
+    """Adds the box in a copy. Returns the files that were touched, and the number of lists in src/, specs/ and proofs/
+    that got an entry."""
+    touched, lists = [], 0
     for file in files():
         path = os.path.join(folder, file)
         if file.endswith(f"mp4_extra_segments/src/{NEW}.rt"):
@@ -210,15 +196,16 @@ def add(folder):
         elif file.startswith("crates/"):
             with open(path, encoding="utf-8") as old:
                 before = old.read()
-            text = (with_answers if "/proofs/" in file else with_lines)(before)
-            if text == before or f"pub const {NEW.upper()}: u32" in before:
+            text, copies = (with_answers if "/proofs/" in file else with_copies)(before)
+            if not copies or f"pub const {NEW.upper()}: u32" in before:
                 continue
+            lists += copies if re.search(r"/(src|specs|proofs)/", file) else 0
         else:
             continue
         with open(path, "w", encoding="utf-8") as new:
             new.write(text)
         touched.append(file)
-    return touched
+    return touched, lists
 
 
 def lines_of(top, file):
@@ -256,7 +243,7 @@ class NewBox(unittest.TestCase):
             self.addCleanup(shutil.rmtree, folder, ignore_errors=True)
         os.makedirs(folder, exist_ok=True)
         copy(folder)
-        touched = add(folder)
+        touched, lists = add(folder)
         for crate in sorted({file.split("/")[1] for file in touched if file.startswith("crates/")}):
             run(os.path.join(folder, "crates", crate), "rt", "fmt")
         lines = sum(lines_of(folder, file) - lines_of(TOP, file) for file in touched)
@@ -268,8 +255,9 @@ class NewBox(unittest.TestCase):
         with open(os.path.join(folder, "file"), "wb") as made:
             made.write(FILE)
         self.assertEqual(run(folder, "./mp4_inspect", "file"), LINE)
-        print(f"new box: {NEW} is read, written and shown. {lines} lines of code and definitions in "
-              f"{len(touched)} files were added; the page has {len(files())}")
+        print(f"new box: {NEW} is read, written and shown. {lists} lists got an entry. {lines} lines of code and "
+              f"definitions in {len(touched)} files were added; the page has {len(files())}")
+        self.assertLessEqual(lists, MOST_LISTS, "lists that got an entry")
         self.assertLessEqual(lines, MOST, "lines of code and definitions")
 
 

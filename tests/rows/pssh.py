@@ -49,3 +49,20 @@ def fields_of_systems():
     keys = 16 * b"\x31" + 16 * b"\x32" + 16 * b"\x33"
     three_keys = full(b"pssh", system, u32(3), keys, data, version=1, flags=0x01_0203)
     yield fields(three_keys, version=1, **shown, KID=[16 * "31", 16 * "32", 16 * "33"], Data="b1b2b3")
+
+
+# The UUIDs of systems as https://dashif.org/identifiers/content_protection lists them, and one in which the last bit
+# of Widevine's differs.
+SYSTEMS = {
+    "edef8ba979d64acea3c827dcd51d21ed": "Widevine", "9a04f07998404286ab92e65be0885f95": "PlayReady",
+    "94ce86fb07ff4f43adb893d2fa968ca2": "FairPlay", "1077efecc0b24d02ace33c1e52e2fb4b": "Common",
+    "e2719d58a985b3c9781ab030af78d30e": "ClearKey", "edef8ba979d64acea3c827dcd51d21ec": None,
+}
+
+
+def fields_of_systems_with_names():
+    """Expects that a system is followed by its name if it has one."""
+    for system, name in SYSTEMS.items():
+        named = {"SystemID_name": name} if name else {}
+        buffer = full(b"pssh", bytes.fromhex(system), u32(3), b"\xb1\xb2\xb3", flags=0x01_0203)
+        yield fields(buffer, version=0, flags=66051, SystemID=system, **named, Data="b1b2b3")

@@ -1,5 +1,6 @@
 -- The way in which a box is read, by its code and its context: the box around it and the handler of its media.
-use Rattle.std.specs.Prelude.{ℕ, Bool, ◌+◌, ◌-◌, ◌^◌, ◌==◌, ◌&&◌, ◌||◌, min, nat_le, None, Some, if◌then◌else◌}
+use Rattle.std.specs.Prelude.{ℕ, Bool, false, not, ◌+◌, ◌-◌, ◌^◌, ◌==◌, ◌&&◌, ◌||◌, min, nat_le, None, Some}
+use Rattle.std.specs.Prelude.{if◌then◌else◌}
 use Rattle.std.specs.declared.option.Option.{Option}
 use Rattle.mp4_frame.specs.BoxType.{name_of}
 use Rattle.mp4_frame.specs.declared.box_type.BoxType.{BoxType}
@@ -26,6 +27,13 @@ entry_kind (Some fronts.QuickTimeSound2) = kinds.Sound
 entry_kind (Some fronts.TextEntry) = kinds.Known names.Tx3gBox
 entry_kind _ = kinds.Entry
 
+-- a box that is another one than the declared box of its code, by the box around it
+abbrev pub is_another : ℕ → WalkContext → Bool
+is_another code s =
+    if code == codes.ALAC then s.parent == codes.STSD else
+    if code == codes.TEXT then not (s.parent == codes.GMHD) else
+    if (code == codes.MEAN) || (code == codes.TAG_NAME) then not (s.parent == codes.FREE_FORM) else false
+
 -- a box that the walk does not enter is read whole, if its name is known; a handler and a data reference are read by
 -- their bytes; an `mp4a` in a `wave` is not a sample entry
 abbrev pub leaf_kind : (BoxType → Bool) → ℕ → Option Front → WalkContext → Kind
@@ -34,7 +42,7 @@ leaf_kind known code front s =
     if code == codes.URL then kinds.Reference else
     if code == codes.UUID then kinds.Uuid else
     if (code == codes.MP4A) && (s.parent == codes.WAVE) then kinds.Unread else
-    if known (name_of code) then kinds.Known (name_of code) else
+    if not (is_another code s) && known (name_of code) then kinds.Known (name_of code) else
     if s.parent == codes.STSD then entry_kind front else kinds.Unread
 
 -- in a box that the walk enters, the fields before its first child are read

@@ -1,11 +1,14 @@
 //! The ways in which a box is read to be shown.
 
 ghost use Rattle.std.specs.Prelude.{◌≡◌};
-ghost use Rattle.mp4_content.specs.Kind.{entry_kind, leaf_kind, parent_kind, bytes_before, end_kind, kind_of};
+ghost use Rattle.mp4_content.specs.Kind.{entry_kind, is_another, leaf_kind, parent_kind, bytes_before, end_kind};
+ghost use Rattle.mp4_content.specs.Kind.{kind_of};
 
 use crate::shown::Shown;
 use crate::terminator::may_end;
-use mp4_frame::codes::{DREF, HDLR, META, MP4A, STSD, URL, UUID, WAVE};
+use mp4_frame::codes::{
+    ALAC, DREF, FREE_FORM, GMHD, HDLR, MEAN, META, MP4A, STSD, TAG_NAME, TEXT, URL, UUID, WAVE,
+};
 use mp4_stream::BoxType;
 use mp4_walk::{BoxState, Front, TreeBox, WalkContext};
 
@@ -56,6 +59,22 @@ fn entry_kind(front: Option<Front>) -> Kind
     }
 }
 
+/// Returns whether a box with this `code` in `context` is another one than `mp4_extra` declares for the code: a sample
+/// entry of Apple Lossless, a `text` outside of a `gmhd`, or a `mean` or `name` outside of an item of metadata.
+fn is_another(code: u32, context: WalkContext) -> bool
+    ensures { result ≡ is_another code context }
+{
+    if code == ALAC {
+        context.parent == STSD
+    } else if code == TEXT {
+        context.parent != GMHD
+    } else if code == MEAN || code == TAG_NAME {
+        context.parent != FREE_FORM
+    } else {
+        false
+    }
+}
+
 /// Returns how to read a box that the walk does not enter. It contains no boxes, or is too short for the fields before
 /// them.
 fn leaf_kind<B: Shown>(code: u32, front: Option<Front>, context: WalkContext) -> Kind
@@ -70,7 +89,7 @@ fn leaf_kind<B: Shown>(code: u32, front: Option<Front>, context: WalkContext) ->
         Kind::Uuid
     } else if code == MP4A && context.parent == WAVE {
         Kind::Unread
-    } else if B::knows(name) {
+    } else if !is_another(code, context) && B::knows(name) {
         Kind::Known(name)
     } else if context.parent == STSD {
         entry_kind(front)

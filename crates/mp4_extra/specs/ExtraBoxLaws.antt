@@ -1,56 +1,124 @@
--- The laws of a box of this crate follow from the laws of its type.
-use Rattle.std.proofs.Common.{◌≡◌, ℕ, Option, None, Some, refl, sym, ap, subst, ◌∙◌}
-use Rattle.mp4_declared.specs.OwnBoxLaws.{laws_declared}
-use Rattle.mp4_frame.specs.declared.box_type.BoxType.{BoxType}
-use Rattle.mp4_frame.specs.Members.{Held, NamedAsRead, ValueOf, holds, held_inside, is_known, name_of_value}
-use Rattle.mp4_frame.specs.MemberLaws.{IsMember, member}
-use Rattle.mp4_frame.specs.BoxType.{code_of, code_of-name_of}
-use Rattle.mp4_declared.specs.NameLaws.{plain_name}
-use Rattle.mp4_extra.specs.ExtraType.{code_of_type, type_of_code}
-use Rattle.mp4_extra.specs.ExtraTypeLaws.{type_found, code_found}
-use Rattle.mp4_extra.specs.ExtraBox.{FieldsOf, wrap, opened, Declarations, format_extra, known_as, kinds, inside}
-use Rattle.mp4_extra.specs.declared.extra_type.ExtraType.{ExtraType}
-use Rattle.mp4_extra.specs.declared.extra_type.ExtraType.TheVariants as types
+-- No two of the four enums have a type of the same code, so a type of this crate is found by its code, and no other is.
+use Rattle.std.proofs.Common.{◌≡◌, ℕ, Option, None, Some, refl, ap, subst, ◌∙◌}
+use Rattle.mp4_extra.specs.CatalogueLaws.{IsCatalogue}
+use Rattle.mp4_extra.specs.ExtraBox.{ExtraType, OfPicture, OfSound, OfSample, OfTrack, entry_of, first_of, opened}
+use Rattle.mp4_extra.specs.ExtraBox.{track_or_none, sample_or_later, sound_or_later, extra_of_code, extra_types}
+use Rattle.mp4_extra.specs.PictureBox.{picture_types, picture_of_code}
+use Rattle.mp4_extra.specs.PictureBoxLaws.{picture_laws}
+use Rattle.mp4_extra.specs.SampleBox.{sample_types, sample_of_code}
+use Rattle.mp4_extra.specs.SampleBoxLaws.{sample_laws}
+use Rattle.mp4_extra.specs.SoundBox.{sound_types, sound_of_code}
+use Rattle.mp4_extra.specs.SoundBoxLaws.{sound_laws}
+use Rattle.mp4_extra.specs.TrackBox.{track_types}
+use Rattle.mp4_extra.specs.TrackBoxLaws.{track_laws}
+use Rattle.mp4_extra.specs.declared.picture_box.PictureType.{PictureType}
+use Rattle.mp4_extra.specs.declared.sample_box.SampleType.{SampleType}
+use Rattle.mp4_extra.specs.declared.sample_box.SampleType.TheVariants as sample
+use Rattle.mp4_extra.specs.declared.sound_box.SoundType.{SoundType}
+use Rattle.mp4_extra.specs.declared.sound_box.SoundType.TheVariants as sound
+use Rattle.mp4_extra.specs.declared.track_box.TrackType.{TrackType}
+use Rattle.mp4_extra.specs.declared.track_box.TrackType.TheVariants as track
 use Rattle.mp4_extra.specs.declared.extra_box.ExtraBox.{ExtraBox}
 use Rattle.mp4_extra.specs.declared.extra_box.ExtraBox.TheVariants as boxes
 
-reopened : (v : ExtraBox) → wrap (opened v).0 (opened v).1 ≡ v
-reopened (boxes.Av1cBox fields) = refl
-reopened _ = refl
+sound_no_picture : (t : SoundType) → picture_types.of_code (sound_types.entry_of t).code ≡ None
+unfolding picture_of_code
+sound_no_picture sound.AlacBox = refl
+sound_no_picture _ = refl
 
-module _ (declared : Declarations) where
-  abbrev held : ExtraBox → Held ExtraBox
-  held = held_inside (inside declared)
+sample_no_picture : (t : SampleType) → picture_types.of_code (sample_types.entry_of t).code ≡ None
+unfolding picture_of_code
+sample_no_picture sample.CslgBox = refl
+sample_no_picture _ = refl
 
-  is_held : (t : ExtraType) (x : FieldsOf t) → held (wrap t x) ≡ holds (format_extra declared t) (wrap t) x
-  is_held types.Av1cBox x = refl
-  is_held _ x = refl
+sample_no_sound : (t : SampleType) → sound_types.of_code (sample_types.entry_of t).code ≡ None
+unfolding sound_of_code
+sample_no_sound sample.CslgBox = refl
+sample_no_sound _ = refl
 
-  of_type : (t : ExtraType) (x : FieldsOf t) → IsMember (kinds declared) held (wrap t x)
-  of_type t x =
-      member (kinds declared) held (wrap t)
-      (laws_declared (declared t).shape (declared t).laws (declared t).layout (declared t).valid) (is_held t)
-      (λ _. ap (λ (code : ℕ). known_as declared (type_of_code code)) (code_of-name_of (code_of_type t))
-      ∙ ap (known_as declared) (type_found t))
-      (λ _. plain_name (code_of_type t)) x
+track_no_picture : (t : TrackType) → picture_types.of_code (track_types.entry_of t).code ≡ None
+unfolding picture_of_code
+track_no_picture track.DataBox = refl
+track_no_picture _ = refl
 
-  pub members : (v : ExtraBox) → IsMember (kinds declared) held v
-  members v = subst (IsMember (kinds declared) held) (reopened v) (of_type (opened v).0 (opened v).1)
+track_no_sound : (t : TrackType) → sound_types.of_code (track_types.entry_of t).code ≡ None
+unfolding sound_of_code
+track_no_sound track.DataBox = refl
+track_no_sound _ = refl
 
-  named_as : (name : BoxType) (found : Option ExtraType) → type_of_code (code_of name) ≡ found
-      → (x : ValueOf (known_as declared found))
-      → code_of (name_of_value held name (known_as declared found) x) ≡ code_of name
-  named_as name None is x = refl
-  named_as name (Some t) is x =
-      ap (λ (h : Held ExtraBox). code_of h.name) (is_held t x)
-      ∙ (code_of-name_of (code_of_type t) ∙ sym (code_found (code_of name) t is))
+track_no_sample : (t : TrackType) → sample_types.of_code (track_types.entry_of t).code ≡ None
+unfolding sample_of_code
+track_no_sample track.DataBox = refl
+track_no_sample _ = refl
 
-  -- a box that is read under a name has the code of that name, which determines how it is read
-  pub named : NamedAsRead (kinds declared) held
-  named name x =
-      let same = named_as name (type_of_code (code_of name)) refl x in
-      (same, ap (λ (code : ℕ). known_as declared (type_of_code code)) same)
+-- the codes of the types before a type are passed over
+past : {S : Type 0} (f : S → ExtraType) (found : Option S) (others : Option ExtraType) → found ≡ None
+    → first_of f found others ≡ others
+past {S} f found others none = ap (λ (o : Option S). first_of f o others) none
 
-  -- the code of a name determines whether the name is known
-  pub by_code : (n m : BoxType) → code_of n ≡ code_of m → is_known (kinds declared n) ≡ is_known (kinds declared m)
-  by_code n m same = ap (λ (code : ℕ). is_known (known_as declared (type_of_code code))) same
+-- and the type that is present is found
+there : {S : Type 0} (f : S → ExtraType) (found : Option S) (others : Option ExtraType) (s : S) → found ≡ Some s
+    → first_of f found others ≡ Some (f s)
+there {S} f found others s is = ap (λ (o : Option S). first_of f o others) is
+
+type_found : (t : ExtraType) → extra_of_code (entry_of t).code ≡ Some t
+type_found (OfPicture t) =
+    let code = (picture_types.entry_of t).code in
+    there OfPicture (picture_types.of_code code) (sound_or_later code) t (picture_laws.found t)
+type_found (OfSound t) =
+    let code = (sound_types.entry_of t).code in
+    past OfPicture (picture_types.of_code code) (sound_or_later code) (sound_no_picture t)
+    ∙ there OfSound (sound_types.of_code code) (sample_or_later code) t (sound_laws.found t)
+type_found (OfSample t) =
+    let code = (sample_types.entry_of t).code in
+    past OfPicture (picture_types.of_code code) (sound_or_later code) (sample_no_picture t)
+    ∙ (past OfSound (sound_types.of_code code) (sample_or_later code) (sample_no_sound t)
+    ∙ there OfSample (sample_types.of_code code) (track_or_none code) t (sample_laws.found t))
+type_found (OfTrack t) =
+    let code = (track_types.entry_of t).code in
+    past OfPicture (picture_types.of_code code) (sound_or_later code) (track_no_picture t)
+    ∙ (past OfSound (sound_types.of_code code) (sample_or_later code) (track_no_sound t)
+    ∙ (past OfSample (sample_types.of_code code) (track_or_none code) (track_no_sample t)
+    ∙ there OfTrack (track_types.of_code code) None t (track_laws.found t)))
+
+-- what holds of the type in either place holds of the first
+in_either : {S : Type 0} (P : ExtraType → Type 0) (f : S → ExtraType) (found : Option S) (others : Option ExtraType)
+    (t : ExtraType) → ((s : S) → found ≡ Some s → P (f s)) → (others ≡ Some t → P t)
+    → first_of f found others ≡ Some t → P t
+in_either P f (Some s) others t first later is = let same : f s ≡ t = cc in subst P same (first s refl)
+in_either P f None others t first later is = later is
+
+code_found : (code : ℕ) (t : ExtraType) → extra_of_code code ≡ Some t → code ≡ (entry_of t).code
+code_found code t is =
+    let P : ExtraType → Type 0 = λ s. code ≡ (entry_of s).code in
+    in_either P OfPicture (picture_types.of_code code) (sound_or_later code) t (picture_laws.own_code code)
+    (in_either P OfSound (sound_types.of_code code) (sample_or_later code) t (sound_laws.own_code code)
+    (in_either P OfSample (sample_types.of_code code) (track_or_none code) t (sample_laws.own_code code)
+    (in_either P OfTrack (track_types.of_code code) None t (track_laws.own_code code) (λ e. absurd cc)))) is
+
+reopened : (v : ExtraBox) → (entry_of (opened v).0).wrap (opened v).1 ≡ v
+reopened (boxes.Picture b) = ap boxes.Picture (picture_laws.reopened b)
+reopened (boxes.Sound b) = ap boxes.Sound (sound_laws.reopened b)
+reopened (boxes.Sample b) = ap boxes.Sample (sample_laws.reopened b)
+reopened (boxes.Track b) = ap boxes.Track (track_laws.reopened b)
+
+abbrev as_picture : (t : PictureType) × (picture_types.entry_of t).Fields → (t : ExtraType) × (entry_of t).Fields
+as_picture o = (OfPicture o.0, o.1)
+
+abbrev as_sound : (t : SoundType) × (sound_types.entry_of t).Fields → (t : ExtraType) × (entry_of t).Fields
+as_sound o = (OfSound o.0, o.1)
+
+abbrev as_sample : (t : SampleType) × (sample_types.entry_of t).Fields → (t : ExtraType) × (entry_of t).Fields
+as_sample o = (OfSample o.0, o.1)
+
+abbrev as_track : (t : TrackType) × (track_types.entry_of t).Fields → (t : ExtraType) × (entry_of t).Fields
+as_track o = (OfTrack o.0, o.1)
+
+is_opened : (t : ExtraType) (x : (entry_of t).Fields) → opened ((entry_of t).wrap x) ≡ (t, x)
+is_opened (OfPicture t) x = ap as_picture (picture_laws.is_opened t x)
+is_opened (OfSound t) x = ap as_sound (sound_laws.is_opened t x)
+is_opened (OfSample t) x = ap as_sample (sample_laws.is_opened t x)
+is_opened (OfTrack t) x = ap as_track (track_laws.is_opened t x)
+
+pub extra_laws : IsCatalogue extra_types
+extra_laws = record { reopened = reopened; is_opened = is_opened; found = type_found; own_code = code_found }

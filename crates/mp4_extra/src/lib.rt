@@ -2,8 +2,57 @@
 //! are in `mp4_extra_media`, `mp4_extra_samples` and `mp4_extra_segments`; this crate exports them all.
 #![tactic(auto)]
 
+/// Matches on a value of the enum `$enum` with the same arm for each variant: it binds the box inside and evaluates the
+/// expression.
+macro_rules! each {
+    ([$($fields:ident $held:ident $code:ident),*] $enum:ident, $value:expr, $inside:ident => $answer:expr) => {
+        match $value {
+            $($enum::$held($inside) => $answer,)*
+        }
+    };
+}
+
+/// Lists all types.
+macro_rules! types {
+    ([$($fields:ident $held:ident $code:ident),*] $types:ident) => {
+        &[$($types::$held),*]
+    };
+}
+
+/// Matches on a code with an arm for each type, which is the type.
+macro_rules! by_code {
+    ([$($fields:ident $held:ident $code:ident),*] $types:ident, $found:expr) => {
+        match $found {
+            $(codes::$code => Some($types::$held),)*
+            _ => None,
+        }
+    };
+}
+
+/// Matches on a type with an arm for each type, which reads a box of this type as a value of `$enum`.
+macro_rules! by_type {
+    ([$($fields:ident $held:ident $code:ident),*] $types:ident, $enum:ident, $of:expr, $values:tt) => {
+        match $of {
+            $($types::$held => read_declared::<$fields, $enum> $values,)*
+        }
+    };
+}
+
+/// Prints a value of `$enum` as its variant, with the box inside.
+macro_rules! print_held {
+    ([$($fields:ident $held:ident $code:ident),*] $enum:ident, $value:expr, $f:expr) => {
+        match $value {
+            $($enum::$held(inside) => print_variant($f, stringify!($held), inside),)*
+        }
+    };
+}
+
+mod declarations;
 mod extra_box;
-mod extra_type;
+mod picture_box;
+mod sample_box;
+mod sound_box;
+mod track_box;
 
 pub use extra_box::ExtraBox;
 pub use mp4_declared::Code;
@@ -18,11 +67,22 @@ pub use mp4_declared::ToEnd;
 pub use mp4_declared::Typed;
 pub use mp4_declared::WRONG_SIZE;
 pub use mp4_declared::WithSize;
+pub use mp4_extra_media::alac::Alac;
+pub use mp4_extra_media::alac::AlacBox;
+pub use mp4_extra_media::alac::AlacConfig;
+pub use mp4_extra_media::auxc::Auxc;
+pub use mp4_extra_media::auxc::AuxcBox;
 pub use mp4_extra_media::av1c::Av1Config;
 pub use mp4_extra_media::av1c::Av1c;
 pub use mp4_extra_media::av1c::Av1cBox;
 pub use mp4_extra_media::btrt::Btrt;
 pub use mp4_extra_media::btrt::BtrtBox;
+pub use mp4_extra_media::chan::Chan;
+pub use mp4_extra_media::chan::ChanBox;
+pub use mp4_extra_media::chan::ChannelDescription;
+pub use mp4_extra_media::chnl::ChannelStructure;
+pub use mp4_extra_media::chnl::Chnl;
+pub use mp4_extra_media::chnl::ChnlBox;
 pub use mp4_extra_media::clap::Clap;
 pub use mp4_extra_media::clap::ClapBox;
 pub use mp4_extra_media::clli::Clli;
@@ -43,6 +103,18 @@ pub use mp4_extra_media::dfla::FlacBlockKind;
 pub use mp4_extra_media::dfla::FlacMetadataBlock;
 pub use mp4_extra_media::dops::Dops;
 pub use mp4_extra_media::dops::DopsBox;
+pub use mp4_extra_media::dvcc::DolbyVisionConfig;
+pub use mp4_extra_media::dvcc::Dvcc;
+pub use mp4_extra_media::dvcc::DvccBox;
+pub use mp4_extra_media::dvvc::Dvvc;
+pub use mp4_extra_media::dvvc::DvvcBox;
+pub use mp4_extra_media::enda::Enda;
+pub use mp4_extra_media::enda::EndaBox;
+pub use mp4_extra_media::fiel::Fiel;
+pub use mp4_extra_media::fiel::FielBox;
+pub use mp4_extra_media::gmin::Gmin;
+pub use mp4_extra_media::gmin::GminBox;
+pub use mp4_extra_media::gmin::GraphicsMode;
 pub use mp4_extra_media::hvcc::HevcArray;
 pub use mp4_extra_media::hvcc::HevcArrayKind;
 pub use mp4_extra_media::hvcc::HevcFormat;
@@ -51,13 +123,32 @@ pub use mp4_extra_media::hvcc::HevcProfile;
 pub use mp4_extra_media::hvcc::HevcRate;
 pub use mp4_extra_media::hvcc::Hvcc;
 pub use mp4_extra_media::hvcc::HvccBox;
+pub use mp4_extra_media::imir::ImageMirror;
+pub use mp4_extra_media::imir::Imir;
+pub use mp4_extra_media::imir::ImirBox;
+pub use mp4_extra_media::irot::ImageRotation;
+pub use mp4_extra_media::irot::Irot;
+pub use mp4_extra_media::irot::IrotBox;
+pub use mp4_extra_media::ispe::Ispe;
+pub use mp4_extra_media::ispe::IspeBox;
 pub use mp4_extra_media::mdcv::Chromaticity;
 pub use mp4_extra_media::mdcv::Mdcv;
 pub use mp4_extra_media::mdcv::MdcvBox;
 pub use mp4_extra_media::pasp::Pasp;
 pub use mp4_extra_media::pasp::PaspBox;
+pub use mp4_extra_media::pixi::Pixi;
+pub use mp4_extra_media::pixi::PixiBox;
+pub use mp4_extra_media::srat::Srat;
+pub use mp4_extra_media::srat::SratBox;
 pub use mp4_extra_media::stpp::Stpp;
 pub use mp4_extra_media::stpp::StppBox;
+pub use mp4_extra_media::tcmi::Tcmi;
+pub use mp4_extra_media::tcmi::TcmiBox;
+pub use mp4_extra_media::text::Text;
+pub use mp4_extra_media::text::TextBox;
+pub use mp4_extra_media::vvcc::VvcFront;
+pub use mp4_extra_media::vvcc::Vvcc;
+pub use mp4_extra_media::vvcc::VvccBox;
 pub use mp4_extra_media::wvtt::Wvtt;
 pub use mp4_extra_media::wvtt::WvttBox;
 pub use mp4_extra_samples::cslg::Cslg;
@@ -90,15 +181,37 @@ pub use mp4_extra_segments::elng::Elng;
 pub use mp4_extra_segments::elng::ElngBox;
 pub use mp4_extra_segments::frma::Frma;
 pub use mp4_extra_segments::frma::FrmaBox;
+pub use mp4_extra_segments::hmhd::Hmhd;
+pub use mp4_extra_segments::hmhd::HmhdBox;
+pub use mp4_extra_segments::iloc::Iloc;
+pub use mp4_extra_segments::iloc::IlocBox;
+pub use mp4_extra_segments::iloc::IlocSizes;
+pub use mp4_extra_segments::infe::Infe;
+pub use mp4_extra_segments::infe::InfeBox;
+pub use mp4_extra_segments::iods::Iods;
+pub use mp4_extra_segments::iods::IodsBox;
+pub use mp4_extra_segments::ipma::Ipma;
+pub use mp4_extra_segments::ipma::IpmaBox;
+pub use mp4_extra_segments::ipma::ItemProperties;
+pub use mp4_extra_segments::ipma::PropertyAssociation;
+pub use mp4_extra_segments::item_id::ItemId;
 pub use mp4_extra_segments::keys::Keys;
 pub use mp4_extra_segments::keys::KeysBox;
 pub use mp4_extra_segments::keys::MetadataKey;
 pub use mp4_extra_segments::kind::Kind;
 pub use mp4_extra_segments::kind::KindBox;
+pub use mp4_extra_segments::leva::Leva;
+pub use mp4_extra_segments::leva::LevaBox;
+pub use mp4_extra_segments::mean::Mean;
+pub use mp4_extra_segments::mean::MeanBox;
 pub use mp4_extra_segments::mfro::Mfro;
 pub use mp4_extra_segments::mfro::MfroBox;
+pub use mp4_extra_segments::name::Name;
+pub use mp4_extra_segments::name::NameBox;
 pub use mp4_extra_segments::nmhd::Nmhd;
 pub use mp4_extra_segments::nmhd::NmhdBox;
+pub use mp4_extra_segments::pitm::Pitm;
+pub use mp4_extra_segments::pitm::PitmBox;
 pub use mp4_extra_segments::prft::Prft;
 pub use mp4_extra_segments::prft::PrftBox;
 pub use mp4_extra_segments::pssh::Pssh;
@@ -108,6 +221,12 @@ pub use mp4_extra_segments::schm::SchmBox;
 pub use mp4_extra_segments::sidx::Sidx;
 pub use mp4_extra_segments::sidx::SidxBox;
 pub use mp4_extra_segments::sidx::SidxEntry;
+pub use mp4_extra_segments::ssix::Ssix;
+pub use mp4_extra_segments::ssix::SsixBox;
+pub use mp4_extra_segments::ssix::SsixRange;
+pub use mp4_extra_segments::ssix::SsixSubsegment;
+pub use mp4_extra_segments::sthd::Sthd;
+pub use mp4_extra_segments::sthd::SthdBox;
 pub use mp4_extra_segments::styp::Styp;
 pub use mp4_extra_segments::styp::StypBox;
 pub use mp4_extra_segments::tenc::Tenc;
@@ -119,3 +238,7 @@ pub use mp4_extra_segments::tfra::TfraLengths;
 pub use mp4_extra_segments::tref::TrackReference;
 pub use mp4_extra_segments::tref::Tref;
 pub use mp4_extra_segments::tref::TrefBox;
+pub use picture_box::PictureBox;
+pub use sample_box::SampleBox;
+pub use sound_box::SoundBox;
+pub use track_box::TrackBox;

@@ -1,4 +1,5 @@
+pub mod ShownBlocks
+pub mod ShownChannels
 pub mod ShownColour
 pub mod ShownMapping
-pub mod ShownBlocks
 pub mod ShownStreams

@@ -2,8 +2,12 @@
 //! shape, in a file of its name. `mp4_extra` exports them all.
 #![tactic(auto)]
 
+pub mod alac;
+pub mod auxc;
 pub mod av1c;
 pub mod btrt;
+pub mod chan;
+pub mod chnl;
 pub mod clap;
 pub mod clli;
 pub mod colr;
@@ -11,8 +15,21 @@ pub mod dac3;
 pub mod dec3;
 pub mod dfla;
 pub mod dops;
+pub mod dvcc;
+pub mod dvvc;
+pub mod enda;
+pub mod fiel;
+pub mod gmin;
 pub mod hvcc;
+pub mod imir;
+pub mod irot;
+pub mod ispe;
 pub mod mdcv;
 pub mod pasp;
+pub mod pixi;
+pub mod srat;
 pub mod stpp;
+pub mod tcmi;
+pub mod text;
+pub mod vvcc;
 pub mod wvtt;

@@ -3,7 +3,6 @@
 ghost use Rattle.std.specs.Prelude.{OnOk};
 ghost use Rattle.mp4_shown.specs.Members.{HandsMembers};
 
-use crate::fields::put_extra;
 use mp4_extra::ExtraBox;
 use mp4_show::put_fields;
 use mp4_shown::{FieldSink, Result};
@@ -23,9 +22,16 @@ impl HasFields for AnyBox {
     }
 }
 
+/// Hands the fields of a box that declares their names to a sink.
+fn put_declared<B: mp4_shown::HasFields, K: FieldSink>(fields: &B, sink: &mut K) -> Result<()>
+    ensures whole { OnOk result (HandsMembers K.trace K.after sink.old sink.new) }
+{
+    mp4_shown::put_fields(fields, sink)
+}
+
 impl HasFields for ExtraBox {
     fn put_fields<K: FieldSink>(&self, sink: &mut K) -> Result<()> {
-        put_extra(self, sink)
+        put_declared(self, sink)
     }
 }
 

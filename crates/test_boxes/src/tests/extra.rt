@@ -1,10 +1,12 @@
 //! Tests of values that cannot be written: a number does not fit its field, or a part belongs to another version or
 //! flag. Such values cannot be read from bytes, so a row (bytes with the expected result) cannot cover them.
 
+mod items;
 mod lists;
 mod numbers;
 mod parents;
 mod sample_entries;
+mod subjects;
 
 use mp4_stream::author::{Declared, DeclaredBox};
 use mp4_stream::{Entries, Error, WriteBox};
@@ -21,14 +23,23 @@ pub(crate) enum Ending {
     Other,
 }
 
+/// The ending of a box, unless memory ran out before it was written.
+pub(crate) type Outcome = Result<Ending, AllocError>;
+
+/// The outcome of a box that is written.
+pub(crate) const WRITTEN: Outcome = Ok(Ending::Written);
+
+/// The outcome of a box with a value that does not fit its field.
+pub(crate) const UNFIT: Outcome = Ok(Ending::Unfit);
+
 /// The text of the fault for a value that cannot be written.
-const UNFIT: &str = "value does not fit its field";
+const UNFIT_TEXT: &str = "value does not fit its field";
 
 /// Writes `value` and returns the ending.
 pub(crate) fn ending_of<B: WriteBox>(alloc: Global, value: &B) -> Ending {
     match value.write_box(&mut Vec::new(alloc)) {
         Ok(_) => Ending::Written,
-        Err(Error::InvalidData(text)) if text == UNFIT => Ending::Unfit,
+        Err(Error::InvalidData(text)) if text == UNFIT_TEXT => Ending::Unfit,
         Err(_) => Ending::Other,
     }
 }

@@ -1,6 +1,6 @@
 //! Boxes with lists. A function for each box makes it, writes it and returns the ending.
 
-use crate::tests::extra::{Ending, bytes_of, declared_ending};
+use crate::tests::extra::{Outcome, UNFIT, WRITTEN, bytes_of, declared_ending};
 use mp4_extra::{
     Av1Config, Av1c, Colr, OfType, Pssh, Sbgp, SbgpEntry, Schm, Sdtp, SdtpEntry, Sidx, SidxEntry,
     Tenc, TencPattern,
@@ -9,15 +9,6 @@ use mp4_extra_media::colr::NCLX;
 use mp4_stream::{Entries, FourCC};
 use std::alloc::{AllocError, Global};
 use test_extra::{Group, Line, Lines, Moment, Nested, Packed, Runs, Strings};
-
-/// The ending of a box, unless memory ran out before it was written.
-type Outcome = Result<Ending, AllocError>;
-
-/// The outcome of a box that is written.
-const WRITTEN: Outcome = Ok(Ending::Written);
-
-/// The outcome of a box with a value that does not fit its field.
-const UNFIT: Outcome = Ok(Ending::Unfit);
 
 /// Writes a profile of four bits to a field of three.
 fn av1c(alloc: Global) -> Outcome {
