@@ -73,7 +73,7 @@ class Calls(unittest.TestCase):
 
     def test_fields(self):
         box = table_box("stss", 0, 0x828384, 2, 1, 0xFFFFFFFF)
-        self.assertEqual(codec.fields(box), {"version": 0, "flags": 0x828384, "entries": [1, 0xFFFFFFFF]})
+        self.assertEqual(codec.fields(box), {"version": 0, "flags": 0x828384, "sample_number": [1, 0xFFFFFFFF]})
         box = table_box("mfro", 0, 0, 0x81828384)
         self.assertEqual(codec.fields(memoryview(box + box)), {"version": 0, "flags": 0, "parent_size": 0x81828384})
         matrix = (0x10000, 0, 0, 0, 0x8000, 0, 0, 0, 0x40000000)

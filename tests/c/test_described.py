@@ -37,6 +37,9 @@ BOXES = [
     # the most channels and bits
     full_box(0, 0, b"dfLa", u32(0x80000022), u16(1, 1), bytes(6), u64(1 << 44 | 7 << 41 | 31 << 36), bytes(16)),
     full_box(0, 0, b"elng", b"\xff\0"), full_box(0, 1, b"schm", b"cenc", u32(0x10000), b"\xff\0"),
+    # a base layer that is shown as HLG, and items with a type that isn't UTF-8
+    box(b"dvvC", b"\1\0\x0e\x35\x40", bytes(19)), full_box(2, 0, b"infe", u16(4, 5), b"mime\0\xff\0"),
+    full_box(2, 0, b"infe", u16(4, 5), b"uri \0\xff\0"),
     # each kind of description, one with its own length, and entries that are cut
     full_box(1, 0, b"sgpd", b"roll", u32(2, 1), u16(0xFFFE)), full_box(0, 0, b"sgpd", b"rap ", u32(1), b"\x85"),
     full_box(0, 0, b"sgpd", b"tele", u32(1), b"\x86"), full_box(1, 0, b"sgpd", b"abcd", u32(0, 1, 3), b"abc"),

@@ -54,17 +54,17 @@ def numbers():
     times = "creation_time: 0, modification_time: 0"
     movie = f"mvhd @0 +108 version: 0, flags: 0x000000, {times}, timescale: 600, duration: 9"
     flags = "flags: 0x000007 (enabled, in_movie, in_preview)"
-    track = f"tkhd @0 +92 version: 0, {flags}, {times}, track_id: 1, duration: 9"
-    yield "rate", header_of_a_movie(-0x18000, 0x100), [f"{movie}, rate: -1.5, volume: 1, next_track_id: 3"]
-    yield "volume_of_a_movie", header_of_a_movie(0x10000, -0x40), [f"{movie}, rate: 1, volume: -0.25, next_track_id: 3"]
+    track = f"tkhd @0 +92 version: 0, {flags}, {times}, track_ID: 1, duration: 9"
+    yield "rate", header_of_a_movie(-0x18000, 0x100), [f"{movie}, rate: -1.5, volume: 1, next_track_ID: 3"]
+    yield "volume_of_a_movie", header_of_a_movie(0x10000, -0x40), [f"{movie}, rate: 1, volume: -0.25, next_track_ID: 3"]
     yield "layer", header_of_a_track(-1, -2, 0x100), [
         f"{track}, layer: -1, alternate_group: -2, volume: 1, width: 64, height: 48"]
     yield "volume_of_a_track", header_of_a_track(0, 0, -0x180), [
         f"{track}, layer: 0, alternate_group: 0, volume: -1.5, width: 64, height: 48"]
     yield "media_times", full(b"elst", 0, 0, be(4, 2, 7, -1) + be(2, 1, 0) + be(4, 9, -2) + be(2, 1, 0)), [
         "elst @0 +40 version: 0, flags: 0x000000, entries: 2",
-        "    1: segment_duration: 7, media_time: empty, media_rate: 1, media_rate_fraction: 0",
-        "    2: segment_duration: 9, media_time: -2, media_rate: 1, media_rate_fraction: 0"]
+        "    1: segment_duration: 7, media_time: empty, media_rate_integer: 1, media_rate_fraction: 0",
+        "    2: segment_duration: 9, media_time: -2, media_rate_integer: 1, media_rate_fraction: 0"]
     yield "dates", full(b"mdhd", 1, 0, be(8, 2**32 - 1, 2**32) + be(4, 600) + be(8, 9) + be(2, 0x15C7, 0)), [
         "mdhd @0 +44 version: 1, flags: 0x000000, creation_time: 2040-02-06T06:28:15Z (4294967295), "
         'modification_time: 2040-02-06T06:28:16Z (4294967296), timescale: 600, duration: 9, language: "eng"']

@@ -138,18 +138,19 @@ def shown_tables(trak):
     for name in names:
         if "fault" in found[name] or name == counted and found[name] and not sizes_in(name, found[name]["fields"]):
             return Samples([], Problem(None, name, found[name]["position"]))
-        if name == chunks and not found[counted] and not value_of(found[chunks], "entries"):
+        if name == chunks and not found[counted] and not value_of(found[chunks], "chunk_offset"):
             return Samples([])
         if not found[counted] and name == chunks:
             return Samples([], Problem("there is no stsz"))
         if not found[name] and name not in (counted, "ctts", "stss"):
             return Samples([], Problem("there is no stco" if name == chunks else f"there is no {name}"))
-    rows = {name: value_of(found[name], "entries") for name in names}
+    rows = {name: value_of(found[name], "entries") for name in ("stsc", "stts", "ctts")}
     tables = {
-        "sizes": sizes_in(counted, found[counted]["fields"]), "offsets": rows[chunks],
+        "sizes": sizes_in(counted, found[counted]["fields"]), "offsets": value_of(found[chunks], "chunk_offset"),
         "runs": [(it["first_chunk"], it["samples_per_chunk"], it["sample_description_index"]) for it in rows["stsc"]],
         "durations": [(it["sample_count"], it["sample_delta"]) for it in rows["stts"]],
-        "shifts": [(it["sample_count"], it["sample_offset"]) for it in rows["ctts"] or []], "sync": rows["stss"]}
+        "shifts": [(it["sample_count"], it["sample_offset"]) for it in rows["ctts"] or []],
+        "sync": value_of(found["stss"], "sample_number")}
     fault = disagreement(tables)
     return Samples([], Problem(fault)) if fault else listed(table_steps(tables))
 
@@ -164,7 +165,7 @@ def tree_as_json(asked, answer):
             handler, timescale = (field_of(media.get("children", []), *names) if media else Problem("there is no mdia")
                                   for names in (("hdlr", "handler_type"), ("mdhd", "timescale")))
             handler = handler if isinstance(handler, Problem) else handler.encode("latin-1")
-            tracks.append((trak["position"], field_of(boxes, "tkhd", "track_id"), handler, timescale,
+            tracks.append((trak["position"], field_of(boxes, "tkhd", "track_ID"), handler, timescale,
                            shown_tables(trak)))
     yield from differ("the tracks", tracks, [it[:5] for it in answer.tracks])
 
@@ -413,7 +414,7 @@ def python(asked, answer):
     yield from differ("the boxes", boxes, [
         (len(outer), None if box["type"] == "\0\0\0\0" else box["type"], box["position"], box["length"], box["header"])
         for box, outer in every(asked.boxes)])
-    names = {"tkhd": "track_id", "mdia/hdlr": "handler_type", "mdia/mdhd": "timescale"}
+    names = {"tkhd": "track_ID", "mdia/hdlr": "handler_type", "mdia/mdhd": "timescale"}
     tracks = []
     while (trak := module.find(asked.data, f"moov/trak[{len(tracks)}]")) is not None:
         values = []

@@ -21,6 +21,32 @@ FIXED = {"rate": 16, "volume": 8, "width": 16, "height": 16, "horizresolution": 
          "samplerate": 16}
 # Fields that have a sign (ISO/IEC 14496-12, 8.2.2, 8.3.2 and 8.6.6), and their bits.
 SIGNED = {"rate": 32, "volume": 16, "layer": 16, "alternate_group": 16, "media_rate": 16, "media_rate_fraction": 16}
+# The names of the standards, where the structs have others: those of any box, and those of one box or descriptor.
+STANDARD = {
+    "next_track_id": "next_track_ID", "track_id": "track_ID", "graphics_mode": "graphicsmode",
+    "base_media_decode_time": "baseMediaDecodeTime", "media_rate": "media_rate_integer", "url": "url ",
+    "configuration_version": "configurationVersion", "avc_profile_indication": "AVCProfileIndication",
+    "avc_level_indication": "AVCLevelIndication", "length_size_minus_one": "lengthSizeMinusOne",
+    "sequence_parameter_sets": "sequenceParameterSetNALUnit", "picture_parameter_sets": "pictureParameterSetNALUnit",
+    "avcc": "avcC", "hvcc": "hvcC", "vpcc": "vpcC", "bit_depth": "bitDepth", "chroma_subsampling": "chromaSubsampling",
+    "video_full_range_flag": "videoFullRangeFlag", "color_primaries": "colourPrimaries",
+    "transfer_characteristics": "transferCharacteristics", "matrix_coefficients": "matrixCoefficients",
+    "codec_initialization_data_size": "codecInitializationDataSize", "display_flags": "displayFlags",
+    "horizontal_justification": "horizontal-justification", "vertical_justification": "vertical-justification",
+    "bg_color_rgba": "background-color-rgba", "box_record": "default-text-box", "style_record": "default-style",
+    "es_desc": "ES", "es_id": "ES_ID", "dec_config": "decConfigDescr",
+    "object_type_indication": "objectTypeIndication", "stream_type": "streamType", "up_stream": "upStream",
+    "buffer_size_db": "bufferSizeDB", "max_bitrate": "maxBitrate", "avg_bitrate": "avgBitrate",
+    "dec_specific": "decSpecificInfo",
+}
+STANDARD_IN = {
+    "stco": {"entries": "chunk_offset"}, "co64": {"entries": "chunk_offset"}, "stss": {"entries": "sample_number"},
+    "stsz": {"sample_sizes": "entry_size"},
+    "trun": {"sample_durations": "sample_duration", "sample_sizes": "sample_size",
+             "sample_cts": "sample_composition_time_offset"},
+    "dec_specific": {"profile": "audioObjectType", "freq_index": "samplingFrequencyIndex",
+                     "sample_rate": "samplingFrequency", "chan_conf": "channelConfiguration"},
+}
 MATRIX = {"a": 16, "b": 16, "u": 30, "c": 16, "d": 16, "v": 30, "x": 16, "y": 16, "w": 30}
 UNITY = {"a": 1, "b": 0, "u": 0, "c": 0, "d": 1, "v": 0, "x": 0, "y": 0, "w": 1}
 
@@ -66,11 +92,10 @@ def sound(data, at, size, front, stsd_version):
         names = ["samples_per_packet", "bytes_per_packet", "bytes_per_frame", "bytes_per_sample"]
         fields.update((name, number(data, at + 28 + 4 * index, 4)) for index, name in enumerate(names))
     if front == QUICKTIME_SOUNDS[2] <= size:
-        fields["audio_sample_rate"] = float_in(data[at + 32:at + 40])
-        fields.update(num_audio_channels=number(data, at + 40, 4), const_bits_per_channel=number(data, at + 48, 4),
-                      format_specific_flags=number(data, at + 52, 4),
-                      const_bytes_per_audio_packet=number(data, at + 56, 4),
-                      const_lpcm_frames_per_audio_packet=number(data, at + 60, 4))
+        fields["audioSampleRate"] = float_in(data[at + 32:at + 40])
+        fields.update(numAudioChannels=number(data, at + 40, 4), constBitsPerChannel=number(data, at + 48, 4),
+                      formatSpecificFlags=number(data, at + 52, 4), constBytesPerAudioPacket=number(data, at + 56, 4),
+                      constLPCMFramesPerAudioPacket=number(data, at + 60, 4))
     return fields
 
 
@@ -150,7 +175,11 @@ def fields_of(name, box, version=None):
     left_out = {name for name, field in box.items() if field is None or name == "sl_config"}
     if name == "trun":
         left_out |= {name for name, field in box.items() if field == []}
-    return {key: shown(key, field, version, name) for key, field in box.items() if key not in left_out}
+    if name == "vmhd":
+        colour = {f"opcolor_{part}": field for part, field in box["op_color"].items()}
+        box = {**{key: field for key, field in box.items() if key != "op_color"}, **colour}
+    names = {**STANDARD, **STANDARD_IN.get(name, {})}
+    return {names.get(key, key): shown(key, field, version, name) for key, field in box.items() if key not in left_out}
 
 
 NOT_MP4 = "this is not an MP4 file: "
@@ -351,25 +380,23 @@ CHANNELS = {
     0x800: "top centre surround", 0x1000: "vertical height left", 0x2000: "vertical height centre",
     0x4000: "vertical height right", 0x8000: "top back left", 0x10000: "top back centre", 0x20000: "top back right",
 }
-SAMPLE_FLAGS = {"default_sample_flags", "first_sample_flags", "sample_flags", "flags"}
+SAMPLE_FLAGS = {"default_sample_flags", "first_sample_flags", "sample_flags"}
 KINDS = {"vide": "video", "soun": "sound", "text": "text", "sbtl": "subtitles", "subt": "subtitles", "clcp": "captions",
          "hint": "hints", "tmcd": "time code", "meta": "metadata", "pict": "pictures"}
-BYTES = {"message_data", "data_bytes", "compressorname", "reserved0", "reserved1", "style_record",
-         "sequence_parameter_sets", "picture_parameter_sets"}
+BYTES = {"message_data", "data_bytes", "compressorname", "reserved0", "reserved1", "default-style",
+         "sequenceParameterSetNALUnit", "pictureParameterSetNALUnit"}
 # The order of fields, where it is not that of the slow reader. Other fields follow these.
 ORDERS = {
     "emsg": ["version", "flags", "scheme_id_uri", "value", "timescale", "presentation_time", "presentation_time_delta",
              "event_duration", "id", "message_data"],
-    "vpcC": ["version", "flags", "profile", "level", "bit_depth", "chroma_subsampling", "video_full_range_flag",
-             "color_primaries", "transfer_characteristics", "matrix_coefficients", "codec_initialization_data_size"],
-    "dec_config": ["object_type_indication", "stream_type", "up_stream", "buffer_size_db", "max_bitrate", "avg_bitrate",
-                   "dec_specific"],
+    "vpcC": ["version", "flags", "profile", "level", "bitDepth", "chromaSubsampling", "videoFullRangeFlag",
+             "colourPrimaries", "transferCharacteristics", "matrixCoefficients", "codecInitializationDataSize"],
+    "decConfigDescr": ["objectTypeIndication", "streamType", "upStream", "bufferSizeDB", "maxBitrate", "avgBitrate",
+                       "decSpecificInfo"],
     "trun": ["version", "flags", "sample_count", "data_offset", "first_sample_flags", "samples"],
 }
-
-
-# The codes of the boxes that are fields of others, by the names of the fields.
-NAMES = {"url": "url ", "avcc": "avcC", "hvcc": "hvcC", "vpcc": "vpcC"}
+# The names of the parts of a sample.
+SAMPLE = ["sample_duration", "sample_size", "sample_flags", "sample_composition_time_offset"]
 
 
 def code_text(text):
@@ -436,7 +463,7 @@ def value_text(name, value, within):
         return f"{value} ({value.name})"
     if name in DATES:
         return date_text(value)
-    if name == "flags" and within not in ("sample",):
+    if name == "flags":
         return flags_text(value, 6, FLAGS.get(within, {}))
     if name in SAMPLE_FLAGS:
         return flags_text(value, 8, {0x10000: "non_sync"})
@@ -444,7 +471,7 @@ def value_text(name, value, within):
         return flags_text(value, 8, CHANNELS)
     if name == "mChannelFlags":
         return flags_text(value, 8, {1: "rectangular", 2: "spherical", 4: "metres"})
-    if name in ("display_flags", "format_specific_flags", "general_profile_compatibility_flags"):
+    if name in ("displayFlags", "formatSpecificFlags", "general_profile_compatibility_flags"):
         return flags_text(value, 8, {})
     if name == "media_time":
         return "empty" if value == -1 else str(value)
@@ -454,12 +481,12 @@ def value_text(name, value, within):
         return " ".join(map(code_text, value)) or "none"
     if name in BYTES and not (name == "compressorname" and within != "vp09"):
         return bytes_text(value)
-    if name == "box_record":
+    if name == "default-text-box":
         return " ".join(map(str, value))
     if name == "matrix":
         rows = [" ".join(fixed_text(value[letter]) for letter in row) for row in ("abu", "cdv", "xyw")]
         return f"({'; '.join(rows)})"
-    if name == "audio_sample_rate":
+    if name == "audioSampleRate":
         return format(decimal.Decimal(repr(value)), "f").removesuffix(".0")
     if isinstance(value, float):
         return fixed_text(value)
@@ -470,12 +497,10 @@ def value_text(name, value, within):
 
 def samples(fields):
     """Returns `fields`, those of a run, with its samples instead of its columns."""
-    names = {"sample_durations": "duration", "sample_sizes": "size", "sample_flags": "flags",
-             "sample_cts": "composition_time_offset"}
-    columns = {short: fields.pop(name) for name, short in names.items() if name in fields}
+    columns = {name: fields.pop(name) for name in SAMPLE if name in fields}
     if columns:
         count = max(map(len, columns.values()))
-        fields["samples"] = [{short: column[index] for short, column in columns.items()} for index in range(count)]
+        fields["samples"] = [{name: column[index] for name, column in columns.items()} for index in range(count)]
     return fields
 
 
@@ -491,7 +516,7 @@ class Lines:
         for name, value in fields.items():
             if name == "matrix" and value == UNITY:
                 continue
-            is_list = isinstance(value, list) and name not in ("compatible_brands", "box_record")
+            is_list = isinstance(value, list) and name not in ("compatible_brands", "default-text-box")
             if before == "\n":
                 self.lines.append(" " * (indent + 2))
             else:
@@ -499,7 +524,7 @@ class Lines:
             before = ", "
             if isinstance(value, dict) and name != "matrix":
                 self.lines[-1] += f"{name}: {{"
-                self.fields(ordered(value, NAMES.get(name, name)), NAMES.get(name, name), indent, " ")
+                self.fields(ordered(value, name), name, indent, " ")
                 self.lines[-1] += " }"
             elif is_list:
                 self.lines[-1] += f"{name}: {len(value)}"
@@ -513,7 +538,7 @@ class Lines:
         for index, entry in enumerate(entries[:self.rows]):
             self.lines.append(f"{' ' * (indent + 4)}{index + 1}:")
             if isinstance(entry, dict):
-                self.fields(entry, "sample" if name == "samples" else within, indent + 4, " ")
+                self.fields(entry, within, indent + 4, " ")
             else:
                 self.lines[-1] += " " + value_text(name, entry, within)
         if 0 < self.rows < len(entries):
@@ -569,7 +594,7 @@ def tracks_of(boxes):
         if trak["type"] == "trak":
             inside = trak.get("children", [])
             media = first(inside, "mdia").get("children", [])
-            found[trak["position"]] = (value_of(first(inside, "tkhd"), "track_id"),
+            found[trak["position"]] = (value_of(first(inside, "tkhd"), "track_ID"),
                                        value_of(first(media, "hdlr"), "handler_type"))
     return found
 
@@ -622,7 +647,7 @@ def sizes_in(name, fields):
     """Returns the number of samples, their one size or 0, and the list of their sizes, in the fields of a box with the
     name `name`, or None if the sizes of an `stz2` can't be listed. Only bytes are shown if the box has fewer."""
     if name == "stsz":
-        return fields["sample_count"], fields["sample_size"], fields["sample_sizes"]
+        return fields["sample_count"], fields["sample_size"], fields["entry_size"]
     if compact_fault(fields):
         return None
     return fields["sample_count"], 0, fields["entry_size"]
@@ -638,11 +663,11 @@ def tables_of(table):
     if chunks is None or not {name, "stsc", "stts"} <= set(found) or not all("fields" in box for box in used):
         return None
     sizes, runs, times = (found[name]["fields"] for name in (name, "stsc", "stts"))
-    sync = found["stss"]["fields"]["entries"] if "stss" in found else None
+    sync = found["stss"]["fields"]["sample_number"] if "stss" in found else None
     return sizes_in(name, sizes) and {
         "sizes": sizes_in(name, sizes),
         "runs": [(run["first_chunk"], run["samples_per_chunk"], 0) for run in runs["entries"]],
-        "offsets": chunks["fields"]["entries"], "position": chunks["position"],
+        "offsets": chunks["fields"]["chunk_offset"], "position": chunks["position"],
         "durations": [(time["sample_count"], time["sample_delta"]) for time in times["entries"]], "sync": sync}
 
 
@@ -682,13 +707,13 @@ class Check:
         Also finds the sizes of samples in their fragments, by the first `mvex`."""
         for trak in (box for box in boxes if box["type"] == "trak"):
             header = first(trak.get("children", []), "tkhd")
-            number_ = value_of(header, "track_id")
+            number_ = value_of(header, "track_ID")
             if number_ is not None:
                 self.headers[header["position"]] = number_
                 self.numbers.setdefault(number_, (trak["position"], header["position"]))
         for trex in first(boxes, "mvex").get("children", []):
             if trex["type"] == "trex" and "fields" in trex:
-                self.defaults.setdefault(trex["fields"]["track_id"], trex["fields"]["default_sample_size"])
+                self.defaults.setdefault(trex["fields"]["track_ID"], trex["fields"]["default_sample_size"])
 
     def box(self, data, box, path, around, number_, top):
         """Adds the lines of `box`, which is number `number_` of its group."""
@@ -723,16 +748,16 @@ class Check:
         if not fields:
             return None
         if name == "tkhd" and parent == "trak" and depth == 2:
-            if fields["track_id"] == 0:
+            if fields["track_ID"] == 0:
                 return "track_ID 0 is no number of a track; these begin at 1"
             number_ = self.headers.get(box["position"])
             if number_ is not None and self.numbers[number_][1] != box["position"]:
                 return f"track_ID {number_} is that of another track too, whose tkhd is at {self.numbers[number_][1]}"
         if name == "tfhd" and parent == "traf" and depth == 2:
-            if self.has_moov and fields["track_id"] not in self.numbers:
-                return f"track_ID {fields['track_id']} is that of no track of the moov"
+            if self.has_moov and fields["track_ID"] not in self.numbers:
+                return f"track_ID {fields['track_ID']} is that of no track of the moov"
         if name in ("stco", "co64") and not self.elsewhere:
-            offsets = fields["entries"]
+            offsets = fields["chunk_offset"]
             return self.outside("chunk", list(zip(offsets, self.sizes.get(box["position"], [1] * len(offsets)))))
         return None
 
@@ -759,10 +784,10 @@ class Check:
         if base is None:
             return None
         at, found = base, []
-        default = header.get("default_sample_size", self.defaults.get(header["track_id"]))
+        default = header.get("default_sample_size", self.defaults.get(header["track_ID"]))
         for run in (box["fields"] for box in parts.get("trun", [])):
             at = base + run["data_offset"] if "data_offset" in run else at
-            sizes = run.get("sample_sizes", [])
+            sizes = run.get("sample_size", [])
             if default is None and len(sizes) < run["sample_count"]:
                 at = None
                 break
@@ -770,7 +795,7 @@ class Check:
             found.append((at, size))
             at += size
         self.before = at if at is not None and 0 <= at < 2**64 else None
-        if header["track_id"] in self.away or "base_data_offset" in header and not self.has_moov:
+        if header["track_ID"] in self.away or "base_data_offset" in header and not self.has_moov:
             return None
         return self.outside("run", found)
 

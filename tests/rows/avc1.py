@@ -68,9 +68,8 @@ def fields_of_entry_and_configuration():
     yield fields(
         box(b"avc1", bytes(6), u16(1), bytes(16), sizes, u16(4), bytes(32), u16(5, 0xFFFF), configuration),
         data_reference_index=1, width=2, height=3, horizresolution=72.5, vertresolution=73.25, frame_count=4, depth=5,
-        avcc={
-            "configuration_version": 1, "avc_profile_indication": 2, "profile_compatibility": 3,
-            "avc_level_indication": 4, "length_size_minus_one": 1, "sequence_parameter_sets": ["6706"],
-            "picture_parameter_sets": ["680708"],
+        avcC={
+            "configurationVersion": 1, "AVCProfileIndication": 2, "profile_compatibility": 3, "AVCLevelIndication": 4,
+            "lengthSizeMinusOne": 1, "sequenceParameterSetNALUnit": ["6706"], "pictureParameterSetNALUnit": ["680708"],
         },
     )

@@ -96,7 +96,7 @@ def fields_of_configuration():
     # Has ones before the size of lengths, which is 1, and before the number of sequence sets.
     front = u8(1, 2, 3, 4, 0xFD, 0xE1)
     yield fields(
-        box(b"avcC", front, u16(2), u8(0x67, 6), u8(1), u16(3), u8(0x68, 7, 8)), configuration_version=1,
-        avc_profile_indication=2, profile_compatibility=3, avc_level_indication=4, length_size_minus_one=1,
-        sequence_parameter_sets=["6706"], picture_parameter_sets=["680708"],
+        box(b"avcC", front, u16(2), u8(0x67, 6), u8(1), u16(3), u8(0x68, 7, 8)), configurationVersion=1,
+        AVCProfileIndication=2, profile_compatibility=3, AVCLevelIndication=4, lengthSizeMinusOne=1,
+        sequenceParameterSetNALUnit=["6706"], pictureParameterSetNALUnit=["680708"],
     )

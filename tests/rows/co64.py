@@ -31,4 +31,4 @@ def text_of_a_count_without_room():
 def fields_of_two_chunks():
     """ISO/IEC 14496-12, 8.7.5."""
     given = full(b"co64", u32(2), u64(0x1_0000_0003, 4), version=1, flags=2)
-    yield fields(given, version=1, flags=2, entries=[4294967299, 4])
+    yield fields(given, version=1, flags=2, chunk_offset=[4294967299, 4])

@@ -75,12 +75,12 @@ def empty_table_of_any_size():
 
 def fields_of_two_edits():
     """ISO/IEC 14496-12, 8.6.6. An empty edit has the media time -1, of 32 bits in version 0."""
-    last = {"segment_duration": 5, "media_time": 6, "media_rate": -2, "media_rate_fraction": -7}
+    last = {"segment_duration": 5, "media_time": 6, "media_rate_integer": -2, "media_rate_fraction": -7}
     for version, number, media_time in [(0, u32, -1), (1, u64, 4294967295)]:
         given = full(
             b"elst", u32(2), number(3, 0xFFFFFFFF), u16(1, 4), number(5, 6), u16(0xFFFE, 0xFFF9), version=version,
             flags=2,
         )
         yield fields(given, version=version, flags=2, entries=[
-            {"segment_duration": 3, "media_time": media_time, "media_rate": 1, "media_rate_fraction": 4}, last,
+            {"segment_duration": 3, "media_time": media_time, "media_rate_integer": 1, "media_rate_fraction": 4}, last,
         ])

@@ -364,15 +364,17 @@ def fields_of_descriptors():
     decoder = u8(4, 0x17) + u24(7) + u32(8, 9)
     # Has the bits 01010 1111, 13 in 24 bits, 1100 and three of padding; and 01010 1011 1100 and three of padding.
     for content, specific_fields in [
-        (b"\x57\x80\x00\x06\xe0", {"profile": 10, "freq_index": 15, "sample_rate": 13, "chan_conf": 12}),
-        (b"\x55\xe0", {"profile": 10, "freq_index": 11, "chan_conf": 12}),
+        (b"\x57\x80\x00\x06\xe0", {
+            "audioObjectType": 10, "samplingFrequencyIndex": 15, "samplingFrequency": 13, "channelConfiguration": 12,
+        }),
+        (b"\x55\xe0", {"audioObjectType": 10, "samplingFrequencyIndex": 11, "channelConfiguration": 12}),
     ]:
         n = len(content)
         inner = u8(4, 15 + n) + decoder + u8(5, n) + content
         yield fields(
             full(b"esds", u8(3, 23 + n), u16(3), u8(0), inner, u8(6, 1, 2), version=1, flags=2), version=1, flags=2,
-            es_desc={"es_id": 3, "dec_config": {
-                "object_type_indication": 4, "stream_type": 5, "up_stream": 2, "buffer_size_db": 7, "max_bitrate": 8,
-                "avg_bitrate": 9, "dec_specific": specific_fields,
+            ES={"ES_ID": 3, "decConfigDescr": {
+                "objectTypeIndication": 4, "streamType": 5, "upStream": 2, "bufferSizeDB": 7, "maxBitrate": 8,
+                "avgBitrate": 9, "decSpecificInfo": specific_fields,
             }},
         )

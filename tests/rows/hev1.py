@@ -52,5 +52,5 @@ def fields_of_entry_and_configuration():
     yield fields(
         box(b"hev1", bytes(6), u16(1), bytes(16), sizes, u16(4), bytes(32), u16(5, 0xFFFF), configuration),
         data_reference_index=1, width=2, height=3, horizresolution=72.5, vertresolution=73.25, frame_count=4, depth=5,
-        hvcc={"configuration_version": 6},
+        hvcC={"configurationVersion": 6},
     )

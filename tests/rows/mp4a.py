@@ -194,8 +194,9 @@ def fields_of_entry_and_descriptors():
     decoder = u8(4, 17, 4, 0x17) + u24(7) + u32(8, 9) + u8(5, 2, 0x55, 0xE0)
     descriptors = full(b"esds", u8(3, 25), u16(3), u8(0), decoder, u8(6, 1, 2), version=1, flags=2)
     yield fields(box(b"mp4a", entry, descriptors), **of_entry, esds={
-        "version": 1, "flags": 2, "es_desc": {"es_id": 3, "dec_config": {
-            "object_type_indication": 4, "stream_type": 5, "up_stream": 2, "buffer_size_db": 7, "max_bitrate": 8,
-            "avg_bitrate": 9, "dec_specific": {"profile": 10, "freq_index": 11, "chan_conf": 12},
+        "version": 1, "flags": 2, "ES": {"ES_ID": 3, "decConfigDescr": {
+            "objectTypeIndication": 4, "streamType": 5, "upStream": 2, "bufferSizeDB": 7, "maxBitrate": 8,
+            "avgBitrate": 9,
+            "decSpecificInfo": {"audioObjectType": 10, "samplingFrequencyIndex": 11, "channelConfiguration": 12},
         }},
     })

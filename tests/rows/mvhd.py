@@ -54,5 +54,5 @@ def fields_of_a_movie():
         given, version=1, flags=2, creation_time=3, modification_time=4, timescale=5, duration=6, rate=-0.5,
         volume=-0.75,
         matrix={"a": 1.5, "b": -2.0, "u": 1.0, "c": 3.25, "d": 4.125, "v": -0.5, "x": 5.0625, "y": 6.03125, "w": 1.75},
-        next_track_id=7,
+        next_track_ID=7,
     )

@@ -49,4 +49,4 @@ def empty_table_of_any_size():
 
 def fields_of_two_chunks():
     """ISO/IEC 14496-12, 8.7.5."""
-    yield fields(full(b"stco", u32(2, 3, 4), version=1, flags=2), version=1, flags=2, entries=[3, 4])
+    yield fields(full(b"stco", u32(2, 3, 4), version=1, flags=2), version=1, flags=2, chunk_offset=[3, 4])

@@ -28,4 +28,4 @@ def text_of_a_count_without_room():
 
 def fields_of_two_sync_samples():
     """ISO/IEC 14496-12, 8.6.2."""
-    yield fields(full(b"stss", u32(2, 3, 4), version=1, flags=2), version=1, flags=2, entries=[3, 4])
+    yield fields(full(b"stss", u32(2, 3, 4), version=1, flags=2), version=1, flags=2, sample_number=[3, 4])

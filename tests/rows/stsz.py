@@ -47,9 +47,9 @@ def fields_of_one_size_and_of_two():
     """ISO/IEC 14496-12, 8.7.3.2."""
     yield fields(
         full(b"stsz", u32(3, 4), version=1, flags=2),
-        version=1, flags=2, sample_size=3, sample_count=4, sample_sizes=[],
+        version=1, flags=2, sample_size=3, sample_count=4, entry_size=[],
     )
     yield fields(
         full(b"stsz", u32(0, 2, 5, 6), version=1, flags=2),
-        version=1, flags=2, sample_size=0, sample_count=2, sample_sizes=[5, 6],
+        version=1, flags=2, sample_size=0, sample_count=2, entry_size=[5, 6],
     )

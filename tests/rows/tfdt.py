@@ -19,4 +19,4 @@ def other_versions():
 def fields_of_a_late_time():
     """ISO/IEC 14496-12, 8.8.12."""
     given = full(b"tfdt", u64(0x1_0000_0003), version=1, flags=2)
-    yield fields(given, version=1, flags=2, base_media_decode_time=4294967299)
+    yield fields(given, version=1, flags=2, baseMediaDecodeTime=4294967299)

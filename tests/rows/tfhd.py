@@ -48,7 +48,7 @@ def fields_of_all_flags_and_of_none():
     """ISO/IEC 14496-12, 8.8.7."""
     yield fields(
         full(b"tfhd", u32(2), u64(0x1_0000_0003), u32(4, 5, 6, 0x10007), version=1, flags=0x3B),
-        version=1, flags=59, track_id=2, base_data_offset=4294967299, sample_description_index=4,
+        version=1, flags=59, track_ID=2, base_data_offset=4294967299, sample_description_index=4,
         default_sample_duration=5, default_sample_size=6, default_sample_flags=65543,
     )
-    yield fields(full(b"tfhd", u32(2), version=1, flags=0), version=1, flags=0, track_id=2)
+    yield fields(full(b"tfhd", u32(2), version=1, flags=0), version=1, flags=0, track_ID=2)

@@ -62,7 +62,7 @@ def fields_of_a_track():
         u32(0x02804000, 0x01688000), version=1, flags=7,
     )
     yield fields(
-        given, version=1, flags=7, creation_time=2, modification_time=3, track_id=4, duration=5, layer=-6,
+        given, version=1, flags=7, creation_time=2, modification_time=3, track_ID=4, duration=5, layer=-6,
         alternate_group=-7, volume=1.5,
         matrix={"a": 1.5, "b": -2.0, "u": 1.0, "c": 3.25, "d": 4.125, "v": -0.5, "x": 5.0625, "y": 6.03125, "w": 1.75},
         width=640.25, height=360.5,

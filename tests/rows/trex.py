@@ -15,6 +15,6 @@ def fields_of_all_defaults():
     """ISO/IEC 14496-12, 8.8.3."""
     yield fields(
         full(b"trex", u32(3, 4, 5, 6, 0x10007), version=1, flags=2),
-        version=1, flags=2, track_id=3, default_sample_description_index=4, default_sample_duration=5,
+        version=1, flags=2, track_ID=3, default_sample_description_index=4, default_sample_duration=5,
         default_sample_size=6, default_sample_flags=65543,
     )

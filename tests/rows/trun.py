@@ -103,6 +103,7 @@ def fields_of_two_samples():
         yield fields(
             full(b"trun", u32(2, 0xFFFFFFFD, 0x10004), samples, version=version, flags=0xF05),
             version=version, flags=3845, sample_count=2, data_offset=-3, first_sample_flags=65540,
-            sample_durations=[5, 6], sample_sizes=[7, 8], sample_flags=[65545, 10], sample_cts=[11, offset],
+            sample_duration=[5, 6], sample_size=[7, 8], sample_flags=[65545, 10],
+            sample_composition_time_offset=[11, offset],
         )
-    yield fields(full(b"trun", u32(2, 7, 8), flags=0x200), version=0, flags=512, sample_count=2, sample_sizes=[7, 8])
+    yield fields(full(b"trun", u32(2, 7, 8), flags=0x200), version=0, flags=512, sample_count=2, sample_size=[7, 8])

@@ -46,8 +46,10 @@ def fields_of_entry():
     # Has the signed numbers -2 and 3, and then -6, 7, 8 and -9.
     front = bytes(6) + u16(1) + u32(0x2_0000) + u8(0xFE, 3) + colour + u16(0xFFFA, 7, 8, 0xFFF7)
     yield fields(
-        box(b"tx3g", front, counting(14, 25)), data_reference_index=1, display_flags=131072,
-        horizontal_justification=-2, vertical_justification=3,
-        bg_color_rgba={"red": 10, "green": 11, "blue": 12, "alpha": 13}, box_record=[-6, 7, 8, -9],
-        style_record="0e0f10111213141516171819",
+        box(b"tx3g", front, counting(14, 25)), data_reference_index=1, displayFlags=131072,
+        **{
+            "horizontal-justification": -2, "vertical-justification": 3,
+            "background-color-rgba": {"red": 10, "green": 11, "blue": 12, "alpha": 13},
+            "default-text-box": [-6, 7, 8, -9], "default-style": "0e0f10111213141516171819",
+        },
     )

@@ -20,5 +20,5 @@ def fields_of_a_color():
     """ISO/IEC 14496-12, 12.1.2."""
     yield fields(
         full(b"vmhd", u16(3, 4, 5, 6), version=1, flags=2),
-        version=1, flags=2, graphics_mode=3, op_color={"red": 4, "green": 5, "blue": 6},
+        version=1, flags=2, graphicsmode=3, opcolor_red=4, opcolor_green=5, opcolor_blue=6,
     )

@@ -49,9 +49,9 @@ def fields_of_entry_and_configuration():
         full(b"vp09", front, configuration, version=1, flags=2), version=1, flags=2, start_code=3,
         data_reference_index=4, reserved0=16 * "10", width=5, height=6, horizresolution=72.5, vertresolution=73.25,
         reserved1=4 * "20", frame_count=7, compressorname=32 * "30", depth=8, end_code=9,
-        vpcc={
-            "version": 1, "flags": 2, "profile": 3, "level": 4, "bit_depth": 5, "chroma_subsampling": 6,
-            "video_full_range_flag": 1, "color_primaries": 7, "transfer_characteristics": 8, "matrix_coefficients": 9,
-            "codec_initialization_data_size": 10,
+        vpcC={
+            "version": 1, "flags": 2, "profile": 3, "level": 4, "bitDepth": 5, "chromaSubsampling": 6,
+            "videoFullRangeFlag": 1, "colourPrimaries": 7, "transferCharacteristics": 8, "matrixCoefficients": 9,
+            "codecInitializationDataSize": 10,
         },
     )

@@ -60,6 +60,6 @@ def fields_of_both_ranges():
     for video_full_range_flag, bits in [(1, 0x5D), (0, 0x5C)]:
         yield fields(
             full(b"vpcC", u8(3, 4, bits, 7, 8, 9), u16(10), version=1, flags=2), version=1, flags=2, profile=3,
-            level=4, bit_depth=5, chroma_subsampling=6, video_full_range_flag=video_full_range_flag, color_primaries=7,
-            transfer_characteristics=8, matrix_coefficients=9, codec_initialization_data_size=10,
+            level=4, bitDepth=5, chromaSubsampling=6, videoFullRangeFlag=video_full_range_flag, colourPrimaries=7,
+            transferCharacteristics=8, matrixCoefficients=9, codecInitializationDataSize=10,
         )

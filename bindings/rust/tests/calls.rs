@@ -106,7 +106,7 @@ fn faults() {
 #[test]
 fn fields_of_boxes() {
     let stss_box = table_box("stss", 0, 0x828384, &[2, 1, 0xFFFFFFFF]);
-    assert_eq!(fields(&stss_box).unwrap(), r#"{"version":0,"flags":8553348,"entries":[1,4294967295]}"#);
+    assert_eq!(fields(&stss_box).unwrap(), r#"{"version":0,"flags":8553348,"sample_number":[1,4294967295]}"#);
     let mfro = table_box("mfro", 0, 0, &[0x81828384]);
     assert_eq!(fields(&mfro).unwrap(), r#"{"version":0,"flags":0,"parent_size":2172814212}"#);
     assert_eq!(fields(&mfro[..15]), Err(Error::EndOfInput));

@@ -12,8 +12,7 @@ use mp4_c_boxes::to_rows::copy_rows;
 use mp4_extra::ExtraBox;
 use mp4_frame::codes::{HDLR, URL};
 use mp4_frame::{Frame, StreamBox};
-use mp4_show::{Result, json_text, put_handler, put_reference};
-use mp4_show_extra::HasFields;
+use mp4_show::{BoxFields, Result, json_text, put_fields, put_handler, put_reference};
 use mp4_shown::FieldSink;
 use mp4_shown_json::JsonSink;
 use mp4_stream::{AnyBox, Either};
@@ -24,8 +23,7 @@ pub const UNKNOWN_BOX: u32 = 102;
 
 /// Puts the fields of `value` into `sink`. Those of an `hdlr` and of a `url ` are read from `content`, the code and the
 /// content of the box, since the codec keeps their texts only if they are UTF-8.
-#[tactic(auto, using(mp4_show::proofs::Handed::kept_members))]
-fn put_shown<B: HasFields, K: FieldSink>(
+fn put_shown<B: BoxFields, K: FieldSink>(
     value: &B,
     content: Option<(u32, &[u8])>,
     sink: &mut K,
@@ -35,12 +33,12 @@ fn put_shown<B: HasFields, K: FieldSink>(
     match content {
         Some((HDLR, bytes)) if bytes.len() >= 25 => put_handler(bytes, sink),
         Some((URL, bytes)) if bytes.len() >= 4 => put_reference(bytes, sink),
-        _ => value.put_fields(sink),
+        _ => put_fields(value, sink),
     }
 }
 
 /// Writes the fields of `value` to `sink` as an object.
-fn put_object<B: HasFields>(
+fn put_object<B: BoxFields>(
     value: &B,
     content: Option<(u32, &[u8])>,
     sink: &mut JsonSink,
@@ -55,7 +53,7 @@ fn put_object<B: HasFields>(
 
 /// Returns the fields of `value` as the text of a JSON object (RFC 8259) in UTF-8, in the order of the box. `content`
 /// is the code and the content of the box.
-pub fn text_of<B: HasFields>(
+pub fn text_of<B: BoxFields>(
     alloc: Global,
     value: &B,
     content: Option<(u32, &[u8])>,
@@ -69,7 +67,7 @@ pub fn text_of<B: HasFields>(
 
 /// Copies the fields of `value` to `text`, and writes their length to `count`. `content` is the code and the content of
 /// the box. Returns the status.
-fn copy_fields_text<B: HasFields>(
+fn copy_fields_text<B: BoxFields>(
     alloc: Global,
     value: &B,
     content: Option<(u32, &[u8])>,
@@ -95,7 +93,7 @@ fn content_of(bytes: &[u8]) -> Option<(u32, &[u8])> {
 
 /// Copies the fields of the box at the front of `bytes` to `text`, and writes their length to `count`. Returns the
 /// status, which is `UNKNOWN_BOX` if `B` doesn't read boxes of this name.
-pub fn copy_fields<B: StreamBox + HasFields>(
+pub fn copy_fields<B: StreamBox + BoxFields>(
     alloc: Global,
     bytes: &[u8],
     text: &mut [u8],

@@ -1,7 +1,6 @@
 //! The content of a box that is shown.
 
 ghost use Rattle.std.specs.Prelude.{◌≡◌, ◌-◌, ◌≤◌, false, length, min, IsTrue, IfOk, OnOk, IfSome};
-ghost use Rattle.mp4_show.specs.Nesting.{fields, Keeps};
 ghost use Rattle.mp4_shown.specs.Members.{HandsMembers};
 ghost use Rattle.mp4_frame.specs.Reading.{Answers};
 ghost use Rattle.mp4_io.specs.Ends.{is_write};
@@ -13,10 +12,10 @@ use crate::kind::{Kind, kind_of};
 use crate::shown::Shown;
 use mp4_io::{Failure, or_read};
 use mp4_show::{
-    FieldSink, Result, Value, put_entry, put_full, put_handler, put_list_head, put_reference,
-    put_sound, put_visual,
+    BoxFields, Result, put_entry, put_fields, put_full_head, put_handler, put_list_head,
+    put_reference, put_sound, put_terminator, put_usertype, put_visual,
 };
-use mp4_show_extra::HasFields;
+use mp4_shown::FieldSink;
 use mp4_stream::{BoxHeader, BoxType, ByteCursor, Error};
 use mp4_walk::{BoxWalk, Source, TreeBox};
 use std::alloc::Global;
@@ -221,35 +220,27 @@ pub fn content_of<B: Shown, S: Source>(
 
 /// Sends the type of a `uuid` box to `sink`.
 fn put_uuid<K: FieldSink>(bytes: [u8; 16], sink: &mut K) -> Result<()>
-    ensures nesting { OnOk result (Keeps K.since fields sink.old sink.new) }
+    ensures whole { OnOk result (HandsMembers K.trace K.after sink.old sink.new) }
 {
     let id = Uuid::from_bytes(bytes);
     let mut buffer = Uuid::encode_buffer();
     let text = id.hyphenated().encode_lower(&mut buffer);
-    sink.field("usertype", Value::Text(text.as_bytes()))
-}
-
-/// Sends version and flags, the first 4 of `bytes`, to `sink`.
-fn put_full_head<K: FieldSink>(bytes: &[u8], sink: &mut K) -> Result<()>
-    requires { 4 ≤ length bytes.now }
-    ensures nesting { OnOk result (Keeps K.since fields sink.old sink.new) }
-{
-    let flags = u32::from_be_bytes([0, bytes[1], bytes[2], bytes[3]]);
-    put_full(bytes[0], flags, &[], sink)
+    put_usertype(text.as_bytes(), sink)
 }
 
 /// Sends the fields of a sound entry, the first of `bytes`, to `sink`. QuickTime's version is left out if it is 0.
 fn put_sound_entry<K: FieldSink>(bytes: &[u8], is_quicktime: bool, sink: &mut K) -> Result<()>
     requires { 28 ≤ length bytes.now }
-    ensures nesting { OnOk result (Keeps K.since fields sink.old sink.new) }
+    ensures whole { OnOk result (HandsMembers K.trace K.after sink.old sink.new) }
 {
     let version = u16::from_be_bytes([bytes[8], bytes[9]]);
     put_sound(bytes, is_quicktime && version > 0, sink)
 }
 
 /// Sends the fields at the front of the content of a box to `sink`.
+#[tactic(auto, using(mp4_show::proofs::Handed::no_members))]
 fn put_front<K: FieldSink>(kind: Kind, bytes: &[u8], is_quicktime: bool, sink: &mut K) -> Result<()>
-    ensures nesting { OnOk result (Keeps K.since fields sink.old sink.new) }
+    ensures whole { OnOk result (HandsMembers K.trace K.after sink.old sink.new) }
 {
     match kind {
         Kind::Full if bytes.len() >= 4 => put_full_head(bytes, sink),
@@ -258,7 +249,7 @@ fn put_front<K: FieldSink>(kind: Kind, bytes: &[u8], is_quicktime: bool, sink: &
         Kind::Visual if bytes.len() >= 78 => put_visual(bytes, sink),
         Kind::Sound if bytes.len() >= 28 => put_sound_entry(bytes, is_quicktime, sink),
         Kind::Handler if bytes.len() >= 25 => put_handler(bytes, sink),
-        Kind::Terminator => sink.field("terminator", Value::Number(0)),
+        Kind::Terminator => put_terminator(sink),
         Kind::Reference if bytes.len() >= 4 => put_reference(bytes, sink),
         Kind::Uuid => match <[u8; 16]>::try_from(bytes) {
             Ok(id) => put_uuid(id, sink),
@@ -269,8 +260,8 @@ fn put_front<K: FieldSink>(kind: Kind, bytes: &[u8], is_quicktime: bool, sink: &
 }
 
 /// Sends the fields that were read to `sink`.
-#[tactic(auto, using(mp4_show::proofs::Handed::kept_members, mp4_show::proofs::Handed::no_members))]
-pub fn put_content<B: HasFields + Drop, K: mp4_shown::FieldSink>(
+#[tactic(auto, using(mp4_show::proofs::Handed::no_members))]
+pub fn put_content<B: BoxFields + Drop, K: FieldSink>(
     content: &Content<B>,
     is_quicktime: bool,
     sink: &mut K,
@@ -278,7 +269,7 @@ pub fn put_content<B: HasFields + Drop, K: mp4_shown::FieldSink>(
     ensures whole { OnOk result (HandsMembers K.trace K.after sink.old sink.new) }
 {
     match content {
-        Content::Known(value) => value.put_fields(sink),
+        Content::Known(value) => put_fields(value, sink),
         Content::Front(kind, bytes) => put_front(*kind, bytes, is_quicktime, sink),
         _ => Ok(()),
     }

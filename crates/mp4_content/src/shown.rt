@@ -7,12 +7,13 @@ ghost use Rattle.mp4_stream.specs.AnyBox.{known_any, reading_any};
 ghost use Rattle.mp4_compose.specs.Either.{known_or, reading_or};
 
 use mp4_extra::ExtraBox;
-use mp4_show_extra::HasFields;
+use mp4_show::BoxFields;
+use mp4_shown::HasFields;
 use mp4_stream::{AnyBox, BoxType, ByteCursor, Either, Result, StreamBox};
 use std::alloc::Global;
 
 /// A type of boxes that are read by their names, and whose fields are shown.
-pub trait Shown: HasFields + Drop {
+pub trait Shown: BoxFields + Drop {
     /// The names that are read, as a function.
     ghost known: { BoxType → Bool };
 

@@ -9,8 +9,7 @@ ghost use Rattle.mp4_shown_json.specs.Tokens.{Puts};
 
 use mp4_content::{Content, Shown, content_of, either, fault_text, or_memory, put_content};
 use mp4_io::Failure;
-use mp4_show::{Result, json_text};
-use mp4_show_extra::HasFields;
+use mp4_show::{BoxFields, Result, json_text};
 use mp4_shown_json::JsonSink;
 use mp4_stream::{Error, FourCC};
 use mp4_walk::{BoxWalk, Source, TreeBox};
@@ -70,7 +69,7 @@ fn put_fault(alloc: Global, found: &TreeBox, fault: &Error, sink: &mut JsonSink)
 }
 
 /// Writes the member with the fields that were read.
-fn put_all_fields<B: HasFields + Drop>(
+fn put_all_fields<B: BoxFields + Drop>(
     content: &Content<B>,
     is_quicktime: bool,
     sink: &mut JsonSink,
@@ -85,7 +84,7 @@ fn put_all_fields<B: HasFields + Drop>(
 }
 
 /// Writes the fields or the fault of a box.
-fn put_rest<B: HasFields + Drop>(
+fn put_rest<B: BoxFields + Drop>(
     alloc: Global,
     found: &TreeBox,
     content: &Content<B>,
@@ -149,7 +148,7 @@ fn put_end(found: &TreeBox, begun: &mut u64, sink: &mut JsonSink) -> Result<()>
 }
 
 /// Writes a box. Its object stays open if the walk enters the box.
-fn put_box<B: HasFields + Drop>(
+fn put_box<B: BoxFields + Drop>(
     alloc: Global,
     found: &TreeBox,
     content: &Content<B>,

@@ -11,8 +11,7 @@ use mp4_content::{Content, Shown, content_of, either, fault_text, or_memory, put
 use mp4_frame::codes::{STSD, TRAK};
 use mp4_io::{Failure, Output, write_all};
 use mp4_movie::{BoxError, TrackInfo};
-use mp4_show::{Look, Result, TextSink, columns, push_code, push_colored, push_number};
-use mp4_show_extra::HasFields;
+use mp4_show::{BoxFields, Look, Result, TextSink, columns, push_code, push_colored, push_number};
 use mp4_stream::{Error, FourCC};
 use mp4_walk::{BoxWalk, Source, TreeBox, name_of};
 use std::alloc::Global;
@@ -129,7 +128,7 @@ fn put_fault(alloc: Global, found: &TreeBox, fault: &Error, sink: &mut TextSink)
 }
 
 /// Sends the rest of the line of a box, after its head, to `sink`. `tracks` has the tracks of the file.
-fn put_rest<B: HasFields + Drop>(
+fn put_rest<B: BoxFields + Drop>(
     alloc: Global,
     found: &TreeBox,
     content: &Content<B>,
@@ -153,7 +152,7 @@ fn put_rest<B: HasFields + Drop>(
 }
 
 /// Puts the text of a box into `text`. `tracks` has the tracks of the file.
-fn put_box<B: HasFields + Drop>(
+fn put_box<B: BoxFields + Drop>(
     alloc: Global,
     found: &TreeBox,
     content: &Content<B>,

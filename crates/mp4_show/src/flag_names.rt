@@ -2,9 +2,6 @@
 
 use mp4_shown::Meaning;
 
-/// No flag has a name.
-pub const NONE: &[Meaning] = &[];
-
 /// The flags of a track header (ISO/IEC 14496-12, 8.3.2.3).
 pub const TRACK: &[Meaning] = &[
     (0x1, "enabled"),

@@ -1,32 +1,37 @@
 //! The fields of the boxes that the codec reads, by name, and the text that a person reads of any box.
 #![tactic(auto)]
 
-mod brief;
+mod box_fields;
 mod code;
+mod either;
+mod entries_in;
 mod escape;
 mod escaped_json;
 mod fields;
 mod flag_names;
+mod fronts;
 mod language;
 mod lists;
 mod look;
 mod number_text;
-mod sink;
+mod placed;
+mod put_parts;
+mod shapes;
+mod sound_front;
 mod text_sink;
 mod value;
 mod value_text;
 
-pub use brief::{
-    SOUND_LENGTH, VISUAL_LENGTH, put_data, put_data_type, put_entry, put_full, put_handler,
-    put_list_head, put_reference, put_sound, put_visual,
-};
+pub use box_fields::{BoxFields, put_fields};
 pub use code::push_code;
 pub use escape::{is_escaped, push_escaped, push_escaped_bytes};
 pub use escaped_json::json_text;
-pub use fields::{put_fields, put_if_some};
+pub use fronts::{
+    put_entry, put_full_head, put_handler, put_list_head, put_reference, put_terminator,
+    put_usertype, put_visual,
+};
 pub use look::Look;
 pub use mp4_shown::{Result, Value};
 pub use number_text::push_number;
-pub use sink::{FieldSink, put_all};
+pub use sound_front::put_sound;
 pub use text_sink::{TextSink, columns, push_colored};
-pub use value::number;

@@ -1,23 +1,53 @@
-//! Lists of numbers.
+//! Lists of numbers of 64 bits.
 
 ghost use Rattle.std.specs.Prelude.{OnOk};
-ghost use Rattle.mp4_show.specs.Nesting.{fields, Keeps};
+ghost use Rattle.mp4_shown.specs.Event.{Text, seen_text};
+ghost use Rattle.mp4_shown.specs.Hands.{Hands};
+ghost use Rattle.mp4_shown.specs.Members.{whole_items};
+ghost use Rattle.mp4_shown.specs.Runs.{items_of, shown_items};
 
-use crate::sink::FieldSink;
-use crate::value::number;
-use mp4_shown::Result;
+use crate::entries_in::first;
+use mp4_shown::{FieldSink, NamedShape, Result, ShowShape, Value, View};
+use mp4_stream::Entries;
 
-/// Hands the list `name` of whole numbers to `sink`, as a field.
-pub fn put_numbers<N: Copy + Into<u64>, S: FieldSink>(
-    name: &str,
-    numbers: &[N],
-    sink: &mut S,
-) -> Result<()>
-    ensures nesting { OnOk result (Keeps S.since fields sink.old sink.new) }
+/// Hands `numbers` to a sink, each as an item.
+fn put_items<K: FieldSink>(numbers: &[u64], sink: &mut K) -> Result<()>
+    ensures { OnOk result (Hands K.trace K.after sink.old (items_of numbers.now) sink.new) }
 {
-    sink.begin_list(name, numbers.len())?;
-    for entry in numbers.iter().take(sink.rows()) {
-        sink.item(number(*entry))?;
+    for number in numbers {
+        sink.item(Value::Number(*number))?;
     }
-    sink.end_list()
+    Ok(())
+}
+
+/// A list of numbers of 64 bits.
+pub struct WideNumbers;
+
+impl NamedShape for WideNumbers {
+    type Value = Entries<u64>;
+
+    type Names = &'static str;
+
+    ghost Seen = { Text };
+
+    ghost seen = { seen_text };
+
+    ghost shown = { λ name view numbers. shown_items name.now view.rows numbers };
+
+    ghost whole = { λ name view numbers. whole_items name.now view.rows numbers };
+}
+
+impl<'a> ShowShape<&'a [u64]> for WideNumbers {
+    ghost content = { λ numbers. numbers.now };
+
+    fn show<K: FieldSink>(
+        name: &'static str,
+        view: View,
+        value: &'a [u64],
+        sink: &mut K,
+    ) -> Result<()> {
+        sink.begin_list(name, value.len())?;
+        put_items(first(value, view.rows), sink)?;
+        sink.end_list()
+    }
 }

@@ -1,17 +1,33 @@
 //! The fields of metadata and of events.
 
-ghost use Rattle.std.specs.Prelude.{OnOk};
-ghost use Rattle.mp4_show.specs.Nesting.{fields, Keeps};
+ghost use Rattle.std.specs.Prelude.{◌≡◌, OnOk};
+ghost use Rattle.mp4_media.specs.DataType.{number_data_type};
+ghost use Rattle.mp4_show.specs.Metadata.{integer, shown_integer, shown_value, whole_value};
+ghost use Rattle.mp4_show.specs.declared.fields.metadata.TheConstants.{DATA, EMSG};
+ghost use Rattle.mp4_shown.specs.Hands.{Hands};
 
-use crate::brief::{put_data, put_data_type, put_full};
-use crate::flag_names::NONE;
-use crate::sink::{FieldSink, put_all};
-use crate::value::number;
-use mp4_shown::{Result, Value};
-use mp4_stream::{DataBox, DataType, EmsgBox};
+use crate::box_fields::BoxFields;
+use crate::shapes::{LossyText, Optional};
+use mp4_declared::{Full, Last, Rest, U32, U64, parts_of};
+use mp4_frame::{i8_at, i16_at, i32_at};
+use mp4_shown::{
+    FLAGS, FieldSink, Meaning, NamedShape, Result, ShowShape, VERSION, Value, View, names_of,
+    number, run, show_shape,
+};
+use mp4_stream::{DataBox, DataType, EmsgBox, Entries};
 
-/// The number of a type of metadata values.
-fn number_of(data_type: &DataType) -> u32 {
+/// The types of metadata values that the codec reads (QuickTime File Format, "Well-known types").
+const DATA_TYPES: &[Meaning] = &[
+    (0, "binary"),
+    (1, "text"),
+    (13, "JPEG"),
+    (21, "signed integer"),
+];
+
+/// Returns the number of `data_type`.
+fn number_data_type(data_type: &DataType) -> u32
+    ensures { result ≡ number_data_type data_type.now }
+{
     match data_type {
         DataType::Binary => 0,
         DataType::Text => 1,
@@ -20,36 +36,162 @@ fn number_of(data_type: &DataType) -> u32 {
     }
 }
 
-/// The value of a metadata item (QuickTime's metadata, "Data atom").
-pub fn put_data_box<S: FieldSink>(b: &DataBox, sink: &mut S) -> Result<()>
-    ensures nesting { OnOk result (Keeps S.since fields sink.old sink.new) }
+/// Returns the signed number in 1, 2 or 4 bytes.
+fn integer(bytes: &[u8]) -> Option<i64>
+    ensures { result ≡ integer bytes.now }
 {
-    let data_type = number_of(&b.data_type);
-    put_data_type(data_type, sink)?;
-    put_data(data_type, b.data_bytes.as_slice(), sink)
+    if bytes.len() == 1 {
+        Some(i64::from(i8_at(bytes, 0)))
+    } else if bytes.len() == 2 {
+        Some(i64::from(i16_at(bytes, 0)))
+    } else if bytes.len() == 4 {
+        Some(i64::from(i32_at(bytes, 0)))
+    } else {
+        None
+    }
+}
+
+/// Hands `number` to a sink, or `bytes` if there is none.
+fn put_integer<K: FieldSink>(number: Option<i64>, bytes: &[u8], sink: &mut K) -> Result<()>
+    ensures { OnOk result (Hands K.trace K.after sink.old (shown_integer number bytes.now) sink.new) }
+{
+    match number {
+        None => sink.field("data_bytes", Value::Bytes(bytes)),
+        Some(number) => sink.field("number", Value::Signed(number)),
+    }
+}
+
+/// A metadata value: the number of its type, and its bytes.
+struct MetadataValue;
+
+impl NamedShape for MetadataValue {
+    type Value = (u32, Entries<u8>);
+
+    type Names = ();
+
+    ghost Seen = { Unit {0} };
+
+    ghost seen = { λ names. names };
+
+    ghost shown = { λ names view v. shown_value v.0 v.1 };
+
+    ghost whole = { λ names view v. whole_value v.0 v.1 };
+}
+
+impl<'a> ShowShape<(u32, &'a [u8])> for MetadataValue {
+    ghost content = { λ v. (v.0, v.1.now) };
+
+    fn show<K: FieldSink>(
+        _names: (),
+        _view: View,
+        value: (u32, &'a [u8]),
+        sink: &mut K,
+    ) -> Result<()> {
+        let (data_type, bytes) = value;
+        if data_type == 1 {
+            return sink.field("text", Value::Text(bytes));
+        }
+        if data_type == 21 {
+            return put_integer(integer(bytes), bytes, sink);
+        }
+        sink.field("data_bytes", Value::Bytes(bytes))
+    }
+}
+
+/// The value of a metadata item (QuickTime File Format, "Data atom").
+type DataShown = (U32, Last<MetadataValue>);
+
+/// The names of its fields.
+const DATA: <DataShown as NamedShape>::Names = names_of!(
+    number!("data_type", Named, DATA_TYPES),
+    ()
+);
+
+impl BoxFields for DataBox {
+    ghost shown = { λ view b. ⟦<DataShown as NamedShape>⟧.shown DATA view
+        (number_data_type b.data_type, ((number_data_type b.data_type, b.data_bytes), tt)) };
+
+    ghost whole = { λ view b. ⟦<DataShown as NamedShape>⟧.whole DATA view
+        (number_data_type b.data_type, ((number_data_type b.data_type, b.data_bytes), tt)) };
+
+    fn show<K: FieldSink>(&self, view: View, sink: &mut K) -> Result<()> {
+        let data_type = number_data_type(&self.data_type);
+        let value = (data_type, self.data_bytes.as_slice());
+        show_shape::<DataShown, _, K>(DATA, view, (data_type, (value, ())), sink)
+    }
 }
 
 /// An event (ISO/IEC 23009-1, 5.10.3.3). The field of the other version is left out.
-pub fn put_emsg<S: FieldSink>(b: &EmsgBox, sink: &mut S) -> Result<()>
-    ensures nesting { OnOk result (Keeps S.since fields sink.old sink.new) }
-{
-    put_full(b.version, b.flags, NONE, sink)?;
-    let row = [
-        ("scheme_id_uri", Value::Text(b.scheme_id_uri.as_bytes())),
-        ("value", Value::Text(b.value.as_bytes())),
-        ("timescale", number(b.timescale)),
-    ];
-    put_all(&row, sink)?;
-    if let Some(time) = b.presentation_time {
-        sink.field("presentation_time", number(time))?;
+type EmsgShown = Full<
+    256,
+    (
+        LossyText,
+        LossyText,
+        U32,
+        Optional<U64>,
+        (Optional<U32>, U32, U32, Last<Rest>),
+    ),
+>;
+
+/// The names of its fields.
+const EMSG: <EmsgShown as NamedShape>::Names = names_of!(
+    VERSION,
+    FLAGS,
+    "scheme_id_uri",
+    "value",
+    number!("timescale"),
+    number!("presentation_time"),
+    number!("presentation_time_delta"),
+    number!("event_duration"),
+    number!("id"),
+    run!("message_data", Bytes)
+);
+
+impl BoxFields for EmsgBox {
+    ghost shown = { λ view b. ⟦<EmsgShown as NamedShape>⟧.shown EMSG view (
+      b.version,
+      (
+        b.flags,
+        (
+          b.scheme_id_uri,
+          (
+            b.value,
+            (
+              b.timescale,
+              (
+                b.presentation_time,
+                (b.presentation_time_delta, (b.event_duration, (b.id, (b.message_data, tt)))),
+              ),
+            ),
+          ),
+        ),
+      ),
+    ) };
+
+    ghost whole = { λ view b. ⟦<EmsgShown as NamedShape>⟧.whole EMSG view (
+      b.version,
+      (
+        b.flags,
+        (
+          b.scheme_id_uri,
+          (
+            b.value,
+            (
+              b.timescale,
+              (
+                b.presentation_time,
+                (b.presentation_time_delta, (b.event_duration, (b.id, (b.message_data, tt)))),
+              ),
+            ),
+          ),
+        ),
+      ),
+    ) };
+
+    fn show<K: FieldSink>(&self, view: View, sink: &mut K) -> Result<()> {
+        let parts =
+            parts_of!(self => version, flags, scheme_id_uri.as_bytes(), value.as_bytes(), timescale,
+            presentation_time, presentation_time_delta, event_duration, id, message_data.as_slice());
+        show_shape::<EmsgShown, _, K>(EMSG, view, parts, sink)
     }
-    if let Some(delta) = b.presentation_time_delta {
-        sink.field("presentation_time_delta", number(delta))?;
-    }
-    let row = [
-        ("event_duration", number(b.event_duration)),
-        ("id", number(b.id)),
-        ("message_data", Value::Bytes(b.message_data.as_slice())),
-    ];
-    put_all(&row, sink)
 }

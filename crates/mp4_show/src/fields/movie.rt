@@ -1,42 +1,103 @@
 //! The fields of a file's type and of a movie's header.
 
-ghost use Rattle.std.specs.Prelude.{OnOk};
-ghost use Rattle.mp4_show.specs.Nesting.{fields, Keeps};
+ghost use Rattle.std.specs.Int.{w16, w32, cast_signed};
+ghost use Rattle.mp4_show.specs.declared.fields.movie.TheConstants.{FTYP, MVHD};
 
-use crate::brief::put_full;
-use crate::flag_names::NONE;
-use crate::sink::{FieldSink, put_all};
-use crate::value::{number, put_matrix, signed_rate, signed_volume};
-use mp4_shown::{Result, Value};
+use crate::box_fields::BoxFields;
+use crate::shapes::Transformation;
+use mp4_declared::{Code, Codes, Full, I16, I32, Last, U32, U64, parts_of};
+use mp4_shown::{
+    FLAGS, FieldSink, NamedShape, Result, VERSION, View, names_of, number, show_shape,
+};
 use mp4_stream::{FtypBox, MvhdBox};
 
 /// File type (ISO/IEC 14496-12, 4.3).
-pub fn put_ftyp<S: FieldSink>(b: &FtypBox, sink: &mut S) -> Result<()>
-    ensures nesting { OnOk result (Keeps S.since fields sink.old sink.new) }
-{
-    let brands = b.compatible_brands.as_slice();
-    let row = [
-        ("major_brand", Value::Code(b.major_brand)),
-        ("minor_version", number(b.minor_version)),
-        ("compatible_brands", Value::Codes(brands)),
-    ];
-    put_all(&row, sink)
+type FtypShown = (Code, U32, Last<Codes>);
+
+/// The names of its fields.
+const FTYP: <FtypShown as NamedShape>::Names = names_of!(
+    "major_brand",
+    number!("minor_version"),
+    "compatible_brands"
+);
+
+impl BoxFields for FtypBox {
+    ghost shown = { λ view b. ⟦<FtypShown as NamedShape>⟧.shown FTYP view
+        (b.major_brand, (b.minor_version, (b.compatible_brands, tt))) };
+
+    ghost whole = { λ view b. ⟦<FtypShown as NamedShape>⟧.whole FTYP view
+        (b.major_brand, (b.minor_version, (b.compatible_brands, tt))) };
+
+    fn show<K: FieldSink>(&self, view: View, sink: &mut K) -> Result<()> {
+        let parts = parts_of!(self => major_brand, minor_version, compatible_brands.as_slice());
+        show_shape::<FtypShown, _, K>(FTYP, view, parts, sink)
+    }
 }
 
-/// Movie header (ISO/IEC 14496-12, 8.2.2).
-pub fn put_mvhd<S: FieldSink>(b: &MvhdBox, sink: &mut S) -> Result<()>
-    ensures nesting { OnOk result (Keeps S.since fields sink.old sink.new) }
-{
-    put_full(b.version, b.flags, NONE, sink)?;
-    let row = [
-        ("creation_time", Value::Date(b.creation_time)),
-        ("modification_time", Value::Date(b.modification_time)),
-        ("timescale", number(b.timescale)),
-        ("duration", number(b.duration)),
-        ("rate", signed_rate(b.rate)),
-        ("volume", signed_volume(b.volume)),
-    ];
-    put_all(&row, sink)?;
-    put_matrix(&b.matrix, sink)?;
-    sink.field("next_track_id", number(b.next_track_id))
+/// Movie header (ISO/IEC 14496-12, 8.2.2). The standard has a sign in `rate` and `volume`.
+type MvhdShown = Full<256, (U64, U64, U32, U64, (I32, I16, Transformation, Last<U32>))>;
+
+/// The names of its fields.
+const MVHD: <MvhdShown as NamedShape>::Names = names_of!(
+    VERSION,
+    FLAGS,
+    number!("creation_time", Date),
+    number!("modification_time", Date),
+    number!("timescale"),
+    number!("duration"),
+    number!("rate", Fixed(16)),
+    number!("volume", Fixed(8)),
+    "matrix",
+    number!("next_track_ID")
+);
+
+impl BoxFields for MvhdBox {
+    ghost shown = { λ view b. ⟦<MvhdShown as NamedShape>⟧.shown MVHD view (
+      b.version,
+      (
+        b.flags,
+        (
+          b.creation_time,
+          (
+            b.modification_time,
+            (
+              b.timescale,
+              (
+                b.duration,
+                (cast_signed w32 b.rate, (cast_signed w16 b.volume, (b.matrix, (b.next_track_id, tt)))),
+              ),
+            ),
+          ),
+        ),
+      ),
+    ) };
+
+    ghost whole = { λ view b. ⟦<MvhdShown as NamedShape>⟧.whole MVHD view (
+      b.version,
+      (
+        b.flags,
+        (
+          b.creation_time,
+          (
+            b.modification_time,
+            (
+              b.timescale,
+              (
+                b.duration,
+                (cast_signed w32 b.rate, (cast_signed w16 b.volume, (b.matrix, (b.next_track_id, tt)))),
+              ),
+            ),
+          ),
+        ),
+      ),
+    ) };
+
+    fn show<K: FieldSink>(&self, view: View, sink: &mut K) -> Result<()> {
+        let rate = self.rate.raw_value().cast_signed();
+        let volume = self.volume.raw_value().cast_signed();
+        let matrix = &self.matrix;
+        let parts = parts_of!(self => version, flags, creation_time, modification_time, timescale,
+            duration, = rate, = volume, = matrix, next_track_id);
+        show_shape::<MvhdShown, _, K>(MVHD, view, parts, sink)
+    }
 }

@@ -1,123 +1,205 @@
 //! The fields of the sample entry of MPEG-4 audio, of its descriptors, and of sample descriptions.
 
-ghost use Rattle.std.specs.Prelude.{OnOk};
-ghost use Rattle.mp4_show.specs.Nesting.{fields, Keeps};
+ghost use Rattle.mp4_show.specs.declared.fields.sound.TheConstants.{CONFIG, ESDS, MP4A, SPECIFIC, STREAM, STSD};
 
-use crate::brief::put_full;
-use crate::fields::entries::{put_avc1, put_hev1, put_tx3g, put_vp09};
-use crate::flag_names::NONE;
-use crate::sink::{FieldSink, put_all};
-use crate::value::{fixed, number};
-use mp4_shown::Result;
-use mp4_stream::{DecoderConfigDescriptor, DecoderSpecificDescriptor, EsdsBox, Mp4aBox, StsdBox};
+use crate::box_fields::BoxFields;
+use crate::shapes::{FieldsOf, Optional};
+use mp4_declared::{Full, Last, U8, U16, U32, parts_of};
+use mp4_shown::{
+    FLAGS, FieldSink, Group, NamedShape, Result, VERSION, View, names_of, number, show_shape,
+};
+use mp4_stream::{
+    Avc1Box, DecoderConfigDescriptor, DecoderSpecificDescriptor, ESDescriptor, EsdsBox, Hev1Box,
+    Mp4aBox, StsdBox, Tx3gBox, Vp09Box,
+};
 
-fn put_specific<S: FieldSink>(d: &DecoderSpecificDescriptor, sink: &mut S) -> Result<()>
-    ensures nesting { OnOk result (Keeps S.since fields sink.old sink.new) }
-{
-    let row = [
-        ("profile", number(d.profile)),
-        ("freq_index", number(d.freq_index)),
-    ];
-    put_all(&row, sink)?;
-    if let Some(rate) = d.sample_rate {
-        sink.field("sample_rate", number(rate))?;
+/// The configuration of a decoder of MPEG-4 audio (ISO/IEC 14496-3, 1.6.2.1).
+type SpecificShown = (U8, U8, Optional<U32>, Last<U8>);
+
+/// The names of its fields.
+const SPECIFIC: <SpecificShown as NamedShape>::Names = names_of!(
+    number!("audioObjectType"),
+    number!("samplingFrequencyIndex"),
+    number!("samplingFrequency"),
+    number!("channelConfiguration")
+);
+
+impl BoxFields for DecoderSpecificDescriptor {
+    ghost shown = { λ view b. ⟦<SpecificShown as NamedShape>⟧.shown SPECIFIC view
+        (b.profile, (b.freq_index, (b.sample_rate, (b.chan_conf, tt)))) };
+
+    ghost whole = { λ view b. ⟦<SpecificShown as NamedShape>⟧.whole SPECIFIC view
+        (b.profile, (b.freq_index, (b.sample_rate, (b.chan_conf, tt)))) };
+
+    fn show<K: FieldSink>(&self, view: View, sink: &mut K) -> Result<()> {
+        let parts = parts_of!(self => profile, freq_index, sample_rate, chan_conf);
+        show_shape::<SpecificShown, _, K>(SPECIFIC, view, parts, sink)
     }
-    sink.field("chan_conf", number(d.chan_conf))
 }
 
-fn put_config<S: FieldSink>(d: &DecoderConfigDescriptor, sink: &mut S) -> Result<()>
-    ensures nesting { OnOk result (Keeps S.since fields sink.old sink.new) }
-{
-    let row = [
-        ("object_type_indication", number(d.object_type_indication)),
-        ("stream_type", number(d.stream_type)),
-        ("up_stream", number(d.up_stream)),
-        ("buffer_size_db", number(d.buffer_size_db)),
-        ("max_bitrate", number(d.max_bitrate)),
-        ("avg_bitrate", number(d.avg_bitrate)),
-    ];
-    put_all(&row, sink)?;
-    sink.begin_group("dec_specific")?;
-    put_specific(&d.dec_specific, sink)?;
-    sink.end_group()
+/// The configuration of the decoder of a stream (ISO/IEC 14496-1, 7.2.6.6).
+type ConfigShown = (
+    U8,
+    U8,
+    U8,
+    U32,
+    (U32, U32, Last<Group<FieldsOf<DecoderSpecificDescriptor>>>),
+);
+
+/// The names of its fields.
+const CONFIG: <ConfigShown as NamedShape>::Names = names_of!(
+    number!("objectTypeIndication"),
+    number!("streamType"),
+    number!("upStream"),
+    number!("bufferSizeDB"),
+    number!("maxBitrate"),
+    number!("avgBitrate"),
+    ("decSpecificInfo", ())
+);
+
+impl BoxFields for DecoderConfigDescriptor {
+    ghost shown = { λ view b. ⟦<ConfigShown as NamedShape>⟧.shown CONFIG view (
+      b.object_type_indication,
+      (
+        b.stream_type,
+        (
+          b.up_stream,
+          (
+            b.buffer_size_db,
+            (
+              b.max_bitrate,
+              (b.avg_bitrate, (b.dec_specific, tt)),
+            ),
+          ),
+        ),
+      ),
+    ) };
+
+    ghost whole = { λ view b. ⟦<ConfigShown as NamedShape>⟧.whole CONFIG view (
+      b.object_type_indication,
+      (
+        b.stream_type,
+        (
+          b.up_stream,
+          (
+            b.buffer_size_db,
+            (
+              b.max_bitrate,
+              (b.avg_bitrate, (b.dec_specific, tt)),
+            ),
+          ),
+        ),
+      ),
+    ) };
+
+    fn show<K: FieldSink>(&self, view: View, sink: &mut K) -> Result<()> {
+        let specific = &self.dec_specific;
+        let parts =
+            parts_of!(self => object_type_indication, stream_type, up_stream, buffer_size_db, max_bitrate,
+            avg_bitrate, = specific);
+        show_shape::<ConfigShown, _, K>(CONFIG, view, parts, sink)
+    }
 }
 
-/// How MPEG-4 audio is decoded (ISO/IEC 14496-14, 5.6).
-pub fn put_esds<S: FieldSink>(b: &EsdsBox, sink: &mut S) -> Result<()>
-    ensures nesting { OnOk result (Keeps S.since fields sink.old sink.new) }
-{
-    put_full(b.version, b.flags, NONE, sink)?;
-    sink.begin_group("es_desc")?;
-    sink.field("es_id", number(b.es_desc.es_id))?;
-    sink.begin_group("dec_config")?;
-    put_config(&b.es_desc.dec_config, sink)?;
-    sink.end_group()?;
-    sink.end_group()
+/// The description of a stream (ISO/IEC 14496-1, 7.2.6.5).
+type StreamShown = (U16, Last<Group<FieldsOf<DecoderConfigDescriptor>>>);
+
+/// The names of its fields.
+const STREAM: <StreamShown as NamedShape>::Names = names_of!(
+    number!("ES_ID"),
+    ("decConfigDescr", ())
+);
+
+impl BoxFields for ESDescriptor {
+    ghost shown = { λ view b. ⟦<StreamShown as NamedShape>⟧.shown STREAM view (b.es_id, (b.dec_config, tt)) };
+
+    ghost whole = { λ view b. ⟦<StreamShown as NamedShape>⟧.whole STREAM view (b.es_id, (b.dec_config, tt)) };
+
+    fn show<K: FieldSink>(&self, view: View, sink: &mut K) -> Result<()> {
+        let config = &self.dec_config;
+        show_shape::<StreamShown, _, K>(STREAM, view, (self.es_id, (config, ())), sink)
+    }
+}
+
+/// The box with the description of a stream of MPEG-4 audio (ISO/IEC 14496-14, 5.6).
+type EsdsShown = Full<256, Last<Group<FieldsOf<ESDescriptor>>>>;
+
+/// The names of its fields.
+const ESDS: <EsdsShown as NamedShape>::Names = names_of!(VERSION, FLAGS, ("ES", ()));
+
+impl BoxFields for EsdsBox {
+    ghost shown = { λ view b. ⟦<EsdsShown as NamedShape>⟧.shown ESDS view (b.version, (b.flags, (b.es_desc, tt))) };
+
+    ghost whole = { λ view b. ⟦<EsdsShown as NamedShape>⟧.whole ESDS view (b.version, (b.flags, (b.es_desc, tt))) };
+
+    fn show<K: FieldSink>(&self, view: View, sink: &mut K) -> Result<()> {
+        let stream = &self.es_desc;
+        let parts = parts_of!(self => version, flags, = stream);
+        show_shape::<EsdsShown, _, K>(ESDS, view, parts, sink)
+    }
 }
 
 /// A sample entry of MPEG-4 audio (ISO/IEC 14496-14, 5.6).
-pub fn put_mp4a<S: FieldSink>(b: &Mp4aBox, sink: &mut S) -> Result<()>
-    ensures nesting { OnOk result (Keeps S.since fields sink.old sink.new) }
-{
-    let row = [
-        ("data_reference_index", number(b.data_reference_index)),
-        ("channelcount", number(b.channelcount)),
-        ("samplesize", number(b.samplesize)),
-        ("samplerate", fixed(b.samplerate.raw_value())),
-    ];
-    put_all(&row, sink)?;
-    if let Some(esds) = &b.esds {
-        sink.begin_group("esds")?;
-        put_esds(esds, sink)?;
-        sink.end_group()?;
+type Mp4aShown = (U16, U16, U16, U32, Last<Optional<Group<FieldsOf<EsdsBox>>>>);
+
+/// The names of its fields.
+const MP4A: <Mp4aShown as NamedShape>::Names = names_of!(
+    number!("data_reference_index"),
+    number!("channelcount"),
+    number!("samplesize"),
+    number!("samplerate", Fixed(16)),
+    ("esds", ())
+);
+
+impl BoxFields for Mp4aBox {
+    ghost shown = { λ view b. ⟦<Mp4aShown as NamedShape>⟧.shown MP4A view
+        (b.data_reference_index, (b.channelcount, (b.samplesize, (b.samplerate, (b.esds, tt))))) };
+
+    ghost whole = { λ view b. ⟦<Mp4aShown as NamedShape>⟧.whole MP4A view
+        (b.data_reference_index, (b.channelcount, (b.samplesize, (b.samplerate, (b.esds, tt))))) };
+
+    fn show<K: FieldSink>(&self, view: View, sink: &mut K) -> Result<()> {
+        let parts =
+            parts_of!(self => data_reference_index, channelcount, samplesize, samplerate.raw_value(),
+            esds.as_ref());
+        show_shape::<Mp4aShown, _, K>(MP4A, view, parts, sink)
     }
-    Ok(())
 }
 
-/// Hands the sample entries of video to a sink, those that are there.
-fn put_video_entries<S: FieldSink>(b: &StsdBox, sink: &mut S) -> Result<()>
-    ensures nesting { OnOk result (Keeps S.since fields sink.old sink.new) }
-{
-    if let Some(avc1) = &b.avc1 {
-        sink.begin_group("avc1")?;
-        put_avc1(avc1, sink)?;
-        sink.end_group()?;
-    }
-    if let Some(hev1) = &b.hev1 {
-        sink.begin_group("hev1")?;
-        put_hev1(hev1, sink)?;
-        sink.end_group()?;
-    }
-    if let Some(vp09) = &b.vp09 {
-        sink.begin_group("vp09")?;
-        put_vp09(vp09, sink)?;
-        sink.end_group()?;
-    }
-    Ok(())
-}
+/// Sample descriptions (ISO/IEC 14496-12, 8.5.2). The codec reads the first.
+type StsdShown = Full<
+    256,
+    (
+        Optional<Group<FieldsOf<Avc1Box>>>,
+        Optional<Group<FieldsOf<Hev1Box>>>,
+        Optional<Group<FieldsOf<Vp09Box>>>,
+        Optional<Group<FieldsOf<Mp4aBox>>>,
+        Last<Optional<Group<FieldsOf<Tx3gBox>>>>,
+    ),
+>;
 
-/// Hands the sample entries of sound and of text to a sink, those that are there.
-fn put_other_entries<S: FieldSink>(b: &StsdBox, sink: &mut S) -> Result<()>
-    ensures nesting { OnOk result (Keeps S.since fields sink.old sink.new) }
-{
-    if let Some(mp4a) = &b.mp4a {
-        sink.begin_group("mp4a")?;
-        put_mp4a(mp4a, sink)?;
-        sink.end_group()?;
-    }
-    if let Some(tx3g) = &b.tx3g {
-        sink.begin_group("tx3g")?;
-        put_tx3g(tx3g, sink)?;
-        sink.end_group()?;
-    }
-    Ok(())
-}
+/// The names of its fields.
+const STSD: <StsdShown as NamedShape>::Names = names_of!(
+    VERSION,
+    FLAGS,
+    ("avc1", ()),
+    ("hev1", ()),
+    ("vp09", ()),
+    ("mp4a", ()),
+    ("tx3g", ())
+);
 
-/// Sample descriptions (ISO/IEC 14496-12, 8.5.2), as the codec reads them: the first alone.
-pub fn put_stsd<S: FieldSink>(b: &StsdBox, sink: &mut S) -> Result<()>
-    ensures nesting { OnOk result (Keeps S.since fields sink.old sink.new) }
-{
-    put_full(b.version, b.flags, NONE, sink)?;
-    put_video_entries(b, sink)?;
-    put_other_entries(b, sink)
+impl BoxFields for StsdBox {
+    ghost shown = { λ view b. ⟦<StsdShown as NamedShape>⟧.shown STSD view
+        (b.version, (b.flags, (b.avc1, (b.hev1, (b.vp09, (b.mp4a, (b.tx3g, tt))))))) };
+
+    ghost whole = { λ view b. ⟦<StsdShown as NamedShape>⟧.whole STSD view
+        (b.version, (b.flags, (b.avc1, (b.hev1, (b.vp09, (b.mp4a, (b.tx3g, tt))))))) };
+
+    fn show<K: FieldSink>(&self, view: View, sink: &mut K) -> Result<()> {
+        let parts =
+            parts_of!(self => version, flags, avc1.as_ref(), hev1.as_ref(), vp09.as_ref(), mp4a.as_ref(),
+            tx3g.as_ref());
+        show_shape::<StsdShown, _, K>(STSD, view, parts, sink)
+    }
 }
