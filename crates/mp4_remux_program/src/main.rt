@@ -5,7 +5,6 @@
 mod compare;
 mod destination;
 mod laws;
-mod mark;
 mod movement;
 mod obstacle;
 mod offsets;
@@ -17,17 +16,14 @@ mod rebuild;
 mod refusal;
 mod request;
 mod rewriting;
-mod source;
-mod words;
 mod write;
 
-use mark::unreadable;
+use mp4_command::{NOT_UTF_8, unreadable};
 use mp4_io::Failure;
 use outcome::Outcome;
 use request::{Request, requested};
 use rewriting::rewrite;
 use std::process::ExitCode;
-use words::NOT_UTF_8;
 
 /// Prints to standard error that a name is not UTF-8, if one of the names of files is not. Returns whether it did.
 fn tell_names(rt: &HostRuntime, from: &str, to: &str) -> bool {
@@ -40,11 +36,11 @@ fn tell_names(rt: &HostRuntime, from: &str, to: &str) -> bool {
     }
 }
 
-/// Writes what is requested, if the names are UTF-8. Returns the exit status.
-fn write_file(rt: &HostRuntime, request: &Request) -> Result<u8, Failure> {
+/// Writes what is requested, if the names are UTF-8.
+fn write_file(rt: &HostRuntime, request: &Request) -> Result<Outcome, Failure> {
     let (from, to) = (request.from.as_str(), request.to.as_str());
     if tell_names(rt, from, to) {
-        return Ok(Outcome::Failed.status());
+        return Ok(Outcome::Failed);
     }
     rewrite(rt, from, to)
 }
@@ -52,7 +48,7 @@ fn write_file(rt: &HostRuntime, request: &Request) -> Result<u8, Failure> {
 /// Carries out the command line, and returns the exit status.
 fn run(rt: &HostRuntime) -> Result<u8, Failure> {
     match requested(rt)? {
-        Ok(request) => write_file(rt, &request),
+        Ok(request) => Ok(write_file(rt, &request)?.status()),
         Err(status) => Ok(status),
     }
 }

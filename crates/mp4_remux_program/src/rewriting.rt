@@ -1,14 +1,15 @@
 //! Reading a file and writing a new one. It writes a new file beside the target and renames it once it is complete, so
 //! the target is whole or unchanged.
 
+ghost use Rattle.std.specs.Prelude.{◌≡◌, Ok, codes};
+
 use crate::destination::{Destination, Node, NodeKind, choose_destination, partial_beside};
 use crate::movement::Move;
 use crate::outcome::Outcome;
 use crate::progress::Progress;
 use crate::refusal::Stop;
-use crate::source::Kept;
-use crate::words::{MISUSE, escaped};
 use crate::write::write_fast_start;
+use mp4_command::{Kept, escaped};
 use mp4_io::{Failure, Output, Steady, is_closed_pipe};
 use std::fs::{File, Metadata, OpenOptions, Permissions};
 use std::io::{ErrorKind, IsTerminal, Write};
@@ -299,30 +300,17 @@ fn open_source(rt: &HostRuntime, names: Names<'_>) -> Option<(Opened, Node)> {
     }
 }
 
-/// Prints a misuse of the command line to standard error, and returns its status.
-fn misuse(rt: &HostRuntime, what: &str) -> u8 {
+/// Prints a misuse of the command line to standard error.
+fn misuse(rt: &HostRuntime, what: &str) -> Outcome
+    ensures { result ≡ Outcome.Misused }
+{
     let _ = eprintln!(rt; "mp4remux: -: {what}");
-    MISUSE
+    Outcome::Misused
 }
 
-/// Returns whether `from` can be read twice. If it is `-`, prints a misuse to standard error.
-fn is_input(rt: &HostRuntime, from: &str) -> bool {
-    if from == "-" {
-        misuse(
-            rt,
-            "IN must be a file, since it is read twice; ./- is a file of this name",
-        );
-        return false;
-    }
-    true
-}
-
-/// Writes the file `from` with its `moov` before its media data to the file `to`, or leaves `to` as it was. If `to` is
-/// `-`, writes to the standard output. Returns the exit status: 1 if `from` is refused, and 2 if `from` is `-`.
-pub fn rewrite(rt: &HostRuntime, from: &str, to: &str) -> Result<u8, Failure> {
-    if !is_input(rt, from) {
-        return Ok(MISUSE);
-    }
+/// Writes the file `from` with its `moov` before its media data to the file `to`, or to the standard output if `to` is
+/// `-`.
+fn rewrite_file(rt: &HostRuntime, from: &str, to: &str) -> Result<Outcome, Failure> {
     if to == "-" && rt.stdout().is_terminal() {
         return Ok(misuse(
             rt,
@@ -337,10 +325,24 @@ pub fn rewrite(rt: &HostRuntime, from: &str, to: &str) -> Result<u8, Failure> {
         shown_to: shown_to.as_str(),
     };
     let Some((opened, node)) = open_source(rt, names) else {
-        return Ok(Outcome::Failed.status());
+        return Ok(Outcome::Failed);
     };
     if to == "-" {
-        return Ok(write_to_pipe(rt, names, opened).status());
+        return Ok(write_to_pipe(rt, names, opened));
     }
-    Ok(write_named(rt, names, opened, node)?.status())
+    write_named(rt, names, opened, node)
+}
+
+/// Writes the file `from` with its `moov` before its media data to the file `to`, or leaves `to` as it was. If `to` is
+/// `-`, writes to the standard output. It is a misuse if `from` is `-`, since the standard input can't be read twice.
+pub fn rewrite(rt: &HostRuntime, from: &str, to: &str) -> Result<Outcome, Failure>
+    ensures { from.now ≡ codes "-" → result ≡ Ok Outcome.Misused }
+{
+    if from == "-" {
+        return Ok(misuse(
+            rt,
+            "IN must be a file, since it is read twice; ./- is a file of this name",
+        ));
+    }
+    rewrite_file(rt, from, to)
 }
