@@ -1,6 +1,6 @@
-"""Calls the library for C from C++ (example.cpp), Rust and Python: the tests and examples of bindings/rust and
-bindings/python, with those of docs/RUST.md and docs/PYTHON.md. The library is that of TEST_LIBRARY. Without this
-setting one is built without proof."""
+"""Calls the library for C from Rust and Python: the tests and examples of bindings/rust and bindings/python, with those
+of docs/RUST.md and docs/PYTHON.md. The library is that of TEST_LIBRARY. Without this setting one is built without
+proof."""
 
 import functools
 import os
@@ -62,28 +62,16 @@ class Bindings(unittest.TestCase):
         return path
 
 
-class Cpp(Bindings):
-    @unittest.skipUnless(version_of("c++"), "c++ is not on this machine")
-    def test_example(self):
-        program = os.path.join(self.folder, "example")
-        self.succeeds("c++", "-std=c++11", "-pedantic", "-Wall", "-Wextra", "-Werror", "-O1", "-I", self.library,
-                      os.path.join(TOP, "tests", "c", "example.cpp"),
-                      os.path.join(self.library, "libmp4_box_codec.a"), "-o", program)
-        file = b"\0\0\0\x10free12345678\0\0\0\x20stts" + bytes(7) + b"\2\0\0\0\3\0\0\0\x0a\0\0\0\1\0\0\0\x0b"
-        wanted = b"0 16\n16 32\n  3 samples of 10\n  1 samples of 11\n"
-        self.assertEqual(self.succeeds(program, input=file), wanted)
-
-
 class Rust(Bindings):
-    def cargo(self, cargo, rustc, *words, before=(), **more):
-        """Runs `cargo test` in a copy of the bindings and the documents, and returns its output. The words `before`
-        come before the command."""
+    def cargo(self, cargo, rustc, *words, before=(), command="test", **more):
+        """Runs a command of cargo in a copy of the bindings and the documents, and returns its output. The words
+        `before` come before it."""
         if not os.path.exists(os.path.join(self.folder, "bindings")):
             for name in ("bindings", "docs"):
                 shutil.copytree(os.path.join(TOP, name), os.path.join(self.folder, name))
         env = {**os.environ, "RUSTC": rustc, "RUSTDOC": re.sub("rustc$", "rustdoc", rustc),
                "MP4_BOX_CODEC_LIB_DIR": self.library, "CARGO_TARGET_DIR": os.path.join(self.folder, "target"), **more}
-        words = [*before, cargo, "test", "--offline", *words]
+        words = [*before, cargo, command, "--offline", *words]
         return self.succeeds(*words, cwd=os.path.join(self.folder, RUST), env=env).decode()
 
     def passes(self, cargo, rustc):
@@ -109,6 +97,19 @@ class Rust(Bindings):
         said = self.cargo("cargo", "rustc", "--test", "version", "--", "--ignored", before=before,
                           MP4_BOX_CODEC_LIB_DIR=shared)
         self.assertIn("1 passed", said)
+
+    @unittest.skipUnless(version_of("cargo") and version_of("rustc"), "cargo is not on this machine")
+    def test_package(self):
+        # Cargo builds the package from what it has packed.
+        self.cargo("cargo", "rustc", "--allow-dirty", command="package", RUSTFLAGS="-D warnings")
+        listed = self.cargo("cargo", "rustc", "--allow-dirty", "--list", command="package").split()
+        for name in ("README.md", "build.rs", "src/lib.rs", "src/raw.rs"):
+            self.assertIn(name, listed)
+
+    @unittest.skipUnless(version_of("cargo") and version_of("rustc"), "cargo is not on this machine")
+    def test_documentation(self):
+        # A public item without words, or a link that leads nowhere, is an error.
+        self.cargo("cargo", "rustc", "--no-deps", command="doc", RUSTDOCFLAGS="-D warnings")
 
     def test_crate_with_the_oldest_compiler(self):
         # This compiler is that of Debian 12.

@@ -29,7 +29,11 @@ STATUSES = {
     "moof at .* ends past": 115, "the data before a fragment": 117,
 }
 # The statuses of the errors in Rust.
-ERRORS = {"EndOfInput": END, "InvalidData": INVALID, "BoxNotFound": NOT_FOUND, "NoTrack": NO_TRACK}
+ERRORS = {
+    "EndOfInput": END, "InvalidData": INVALID, "BoxNotFound": NOT_FOUND, "TrakNotFound": NO_TRACK,
+    "SampleSizesDisagree": 110, "FirstChunkDisagrees": 111, "ChunkOrderDisagrees": 112, "ChunkCountDisagrees": 113,
+    "ChunksDisagree": 114, "DurationsDisagree": 115, "SyncSamplesDisagree": 116, "OffsetsDisagree": 117,
+}
 
 
 class Asked:
@@ -450,9 +454,9 @@ def rust(asked, answer):
     found = {}
     for line in lines:
         track_id, what, rows = line.split(" ", 2)
-        error = re.fullmatch(r"(?:TablesDisagree|Other)\((\d+)\)", rows)
-        if error or rows in ERRORS:
-            found[int(track_id), what] = int(error[1]) if error else ERRORS[rows]
+        error = re.match(r"[A-Z]\w+", rows)
+        if error:
+            found[int(track_id), what] = ERRORS[error[0]]
         else:
             rows = [list(map(int, row.split(","))) for row in rows.split()]
             found[int(track_id), what] = [Sample(*row[:5], row[5] == 1, row[6]) for row in rows]

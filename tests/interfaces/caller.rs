@@ -8,17 +8,18 @@
 use std::env;
 use std::fs;
 
-use mp4_box_codec::{fragment_samples, samples, tree, Result, Sample};
+use mp4_box_codec::{fragment_samples, samples, tree, Error, Sample};
 
 /// Writes the samples of a track, or the error.
-fn write(track_id: u32, what: &str, found: Result<Vec<Sample>>) {
+fn write(track_id: u32, what: &str, found: Result<Vec<Sample>, Error>) {
     print!("{track_id} {what} ");
     match found {
+        Err(Error::Fault(fault)) => println!("{fault:?}"),
         Err(error) => println!("{error:?}"),
         Ok(samples) => {
             for it in samples {
-                print!("{},{},{},{},", it.offset, it.size, it.decode_time, it.duration);
-                print!("{},{},{} ", it.rendering_offset, u8::from(it.sync), it.description);
+                print!("{},{},{},{},", it.offset, it.size, it.start_time, it.duration);
+                print!("{},{},{} ", it.rendering_offset, u8::from(it.is_sync), it.description);
             }
             println!();
         }
@@ -28,8 +29,8 @@ fn write(track_id: u32, what: &str, found: Result<Vec<Sample>>) {
 fn main() {
     let arguments: Vec<String> = env::args().skip(1).collect();
     let file = fs::read(&arguments[0]).unwrap();
-    for it in tree(&file).unwrap() {
-        print!("{},{},{},{} ", it.depth, it.code, it.position, it.length);
+    for it in &tree(&file).unwrap() {
+        print!("{},{},{},{} ", it.depth, u32::from(it.code), it.position, it.length);
     }
     println!();
     for track_id in &arguments[1..] {

@@ -48,60 +48,83 @@ unsafe impl GlobalAlloc for Counting {
 static ALLOCATOR: Counting = Counting;
 
 /// Calls with 0 requests granted, with 1, and so on, until a call succeeds with `requests` of them. All calls before it
-/// have to end with `refused`.
-fn each_refused<T, E>(requests: usize, call: impl Fn() -> std::result::Result<T, E>, refused: impl Fn(&E) -> bool) {
+/// have to end with `OutOfMemory`.
+fn each_refused<T>(requests: usize, call: impl Fn() -> Result<T, Error>) {
     for count in 0..=requests {
         GRANTED.with(|it| it.set(count));
         let found = call();
         GRANTED.with(|it| it.set(usize::MAX));
         match found {
             Ok(_) => assert_eq!(count, requests),
-            Err(why) => assert!(count < requests && refused(&why), "{count} of {requests} requests"),
+            Err(why) => {
+                assert_eq!(why, Error::OutOfMemory);
+                assert!(count < requests, "{count} of {requests} requests");
+            }
         }
     }
 }
 
-fn is_memory(why: &Error) -> bool {
-    *why == Error::OutOfMemory
-}
-
 #[test]
 fn refused_requests() {
-    let avcc = Avcc {
-        sequence_parameter_sets: vec![vec![1, 2], vec![3]],
-        picture_parameter_sets: vec![vec![4]],
-        ..Avcc::default()
+    // Two lists and two sets.
+    each_refused(4, || AvcCBox::new(&[0x67, 1, 2, 3], &[0x68]));
+    let avcc = AvcCBox {
+        sequence_parameter_sets: vec![vec![1, 2].into(), vec![3].into()],
+        picture_parameter_sets: vec![vec![4].into()],
+        ..AvcCBox::default()
     };
-    let entry = Entry::Avc1(Avc1 { visual: Visual::default(), avcc });
-    let sample = Stsd { version: 0, flags: 0, entry: Some(entry) };
+    let entry = SampleEntry::Avc1(Avc1Box { avcc, ..Avc1Box::default() });
+    let sample = StsdBox { version: 0, flags: 0, entry: Some(entry) };
     let (scheme_id_uri, value, message_data) = ("urn:x".to_string(), "v".to_string(), vec![1]);
-    let event = Emsg { scheme_id_uri, value, message_data, ..Emsg::default() };
-    let location = Url { version: 0, flags: 0, location: "a/b".to_string() };
-    let references = Dref { version: 0, flags: 0, url: Some(location) };
-    let brands = Ftyp { compatible_brands: vec![1, 2], ..Ftyp::default() };
+    let event = EmsgBox { scheme_id_uri, value, message_data, presentation_time_delta: Some(1), ..EmsgBox::default() };
+    let location = UrlBox { version: 0, flags: 0, location: "a/b".to_string() };
+    let references = DrefBox { version: 0, flags: 0, url: Some(location) };
+    let brands = FtypBox { compatible_brands: vec![FourCC::default(); 2], ..FtypBox::default() };
 
     // The lengths of the sets, their bytes, and the output.
-    each_refused(3, || write_stsd(&sample), is_memory);
-    let bytes = write_stsd(&sample).unwrap();
+    each_refused(3, || sample.to_bytes());
+    let bytes = sample.to_bytes().unwrap();
     // The lengths and bytes again, two lists of sets, and three sets.
-    each_refused(7, || stsd(&bytes), is_memory);
-    each_refused(7, || avc1(&bytes[16..]), is_memory);
-    each_refused(7, || mp4_box_codec::avcc(&bytes[102..]), is_memory);
+    each_refused(7, || StsdBox::read_box(&bytes));
+    each_refused(7, || Avc1Box::read_box(&bytes[16..]));
+    each_refused(7, || AvcCBox::read_box(&bytes[102..]));
     // Each text and the message take one request.
-    each_refused(1, || write_emsg(&event), is_memory);
-    let bytes = write_emsg(&event).unwrap();
-    each_refused(3, || emsg(&bytes), is_memory);
-    each_refused(1, || write_dref(&references), is_memory);
-    let bytes = write_dref(&references).unwrap();
-    each_refused(1, || dref(&bytes), is_memory);
-    each_refused(1, || write_ftyp(&brands), is_memory);
-    let bytes = write_ftyp(&brands).unwrap();
-    each_refused(1, || ftyp(&bytes), is_memory);
-    each_refused(1, || list(&bytes), is_memory);
+    each_refused(1, || event.to_bytes());
+    let bytes = event.to_bytes().unwrap();
+    each_refused(3, || EmsgBox::read_box(&bytes));
+    each_refused(1, || references.to_bytes());
+    let bytes = references.to_bytes().unwrap();
+    each_refused(1, || DrefBox::read_box(&bytes));
+    // The numbers of the brands, and the output or the brands.
+    each_refused(2, || brands.to_bytes());
+    let bytes = brands.to_bytes().unwrap();
+    each_refused(2, || FtypBox::read_box(&bytes));
+    // The spans of the library, and those of the crate.
+    each_refused(2, || list(&bytes));
+    // The output, and the text of the language.
+    let media = MdhdBox::default();
+    each_refused(1, || media.to_bytes());
+    let bytes = media.to_bytes().unwrap();
+    each_refused(1, || MdhdBox::read_box(&bytes));
+    each_refused(1, || container(FourCC::new(b"moov"), &[&bytes]));
 
     // A list of 9 boxes grows twice after the first request: its capacities are 4, 8 and 16.
     let file = b"\0\0\0\x08free".repeat(9);
-    each_refused(3, || tree(&file), is_memory);
-    // The bytes that each of the 9 steps wants take a request too.
-    each_refused(12, || tree_of(&mut io::Cursor::new(&file)), |why| why.kind() == io::ErrorKind::OutOfMemory);
+    each_refused(3, || tree(&file));
+    each_refused(3, || tree_of(&mut io::Cursor::new(&file)));
+}
+
+#[test]
+fn refused_path() {
+    let file = b"\0\0\0\x18moov\0\0\0\x10trak\0\0\0\x08mdia";
+    let tree = tree(file).unwrap();
+    let mdia = tree.find("moov/trak/mdia").unwrap();
+    let refused = |count| {
+        GRANTED.with(|it| it.set(count));
+        let found = mdia.fields(file);
+        GRANTED.with(|it| it.set(usize::MAX));
+        found.unwrap_err()
+    };
+    assert_eq!(refused(0), Error::OutOfMemory);
+    assert!(matches!(refused(usize::MAX), Error::At { position: 16, fault: Fault::UnknownBox, .. }));
 }
