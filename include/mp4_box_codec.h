@@ -24,11 +24,14 @@
  * What every call ensures, for all bytes:
  *
  *  - It returns, and reads and writes no other memory. It keeps no pointer and no memory: it frees what it takes of
- *    malloc before it returns, so the caller has nothing to free. It has no state, so several threads may call at once.
+ *    malloc before it returns, so the caller has nothing to free.
+ *  - It has no state: any number of threads may call any functions at the same time.
  *  - After MP4_OK all elements are at the front of the array, and the places after them are as they were.
  *  - After MP4_NO_ROOM the array is as it was. The number of elements, and whatever else the function returns, is as
  *    after MP4_OK.
  *  - After any other status all memory of the caller is as it was.
+ *
+ * The comment of each function says what it needs beyond that, what it returns, and what it leaves in memory.
  *
  * The header is C89 and later, and C++. Define MP4_NO_STDINT where there is no <stdint.h>. Link the program with
  * libmp4_box_codec.a, which is for x86-64.
@@ -61,6 +64,11 @@ extern "C" {
 
 /* Lengths and numbers of elements have 64 bits, as do the largest numbers in boxes. */
 typedef char mp4_size_has_64_bits[sizeof(size_t) == 8 && sizeof(uint64_t) == 8 ? 1 : -1];
+
+/* A code from its four characters: MP4_CODE('m', 'o', 'o', 'v') is 0x6D6F6F76. */
+#define MP4_CODE(a, b, c, d)                                                                                           \
+    ((uint32_t)(unsigned char)(a) << 24 | (uint32_t)(unsigned char)(b) << 16 | (uint32_t)(unsigned char)(c) << 8 |     \
+     (uint32_t)(unsigned char)(d))
 
 /* The statuses. The status of an error of the codec is its position among the variants of the codec's Error, counted
    from 1. No function here returns the errors 4 to 11. */
@@ -530,38 +538,57 @@ struct mp4_walk {
     struct mp4_walk_level levels[33];
 };
 
-/* Reads all boxes from the front of the bytes to their end, and returns the status of the first fault, or MP4_OK. It
-   skips boxes of types that the codec doesn't read, so it doesn't look into a moov. Call it with the content of such a
-   box to check the boxes inside. */
+/*
+ * Files and streams: whole files, and boxes of any type. A fault is MP4_END_OF_INPUT, MP4_INVALID_DATA,
+ * MP4_BOX_NOT_FOUND or MP4_OUT_OF_MEMORY.
+ */
+
+/* Reads all boxes from the front of the bytes to their end. It skips boxes of types that the codec doesn't read, so it
+   doesn't look into a moov: call it with the content of such a box to check the boxes inside.
+   Needs: `length` bytes at `bytes`.
+   Returns: MP4_OK, or the fault of the first box that has one.
+   Leaves: nothing. */
 uint32_t mp4_check(const uint8_t *bytes, size_t length);
 
 /* Lists the boxes at the top level of the bytes, in their order. It reads only their headers. The children of a box are
-   the boxes of its content. */
+   the boxes of its content.
+   Needs: `length` bytes at `bytes`, and `places` places at `spans`.
+   Returns: MP4_OK, MP4_NO_ROOM or the fault of the first header that has one.
+   Leaves: the boxes in `spans` and their number in `count`. */
 uint32_t mp4_list(const uint8_t *bytes, size_t length, struct mp4_span *spans, size_t places, size_t *count);
 
-/* Writes the boxes of the bytes in their normal form. Boxes of types that the codec doesn't read stay as they are. Also
-   MP4_INVALID_DATA if a box that was read is too large for a size of 32 bits. */
+/* Writes the boxes of the bytes in their normal form. Boxes of types that the codec doesn't read stay as they are.
+   Needs: `length` bytes at `bytes`, and `places` places at `out`.
+   Returns: MP4_OK, MP4_NO_ROOM or the fault of the first box that has one; also MP4_INVALID_DATA if a box that was read
+   is too large for a size of 32 bits.
+   Leaves: the bytes in `out` and their number in `count`. */
 uint32_t mp4_normal(const uint8_t *bytes, size_t length, uint8_t *out, size_t places, size_t *count);
 
-/* Finds the box at a path in the bytes of a file. A path is codes of four characters with '/' between them, such as
-   moov/trak[1]/mdia/mdhd. The number in brackets selects one of the boxes with the same code. Numbers count from 0; no
-   number means 0. The text is UTF-8 without a zero after it: pass MP4_TEXT("moov/trak"). MP4_BOX_NOT_FOUND if there is
-   no such box or its header isn't whole, and MP4_INVALID_DATA if the text is not a path. */
+/* A text of a program as the two arguments that mp4_find takes. */
 #define MP4_TEXT(text) ((const uint8_t *)("" text)), (sizeof(text) - 1)
+
+/* Finds the box at a path. A path is codes of four characters with '/' between them, such as moov/trak[1]/mdia/mdhd.
+   The number in brackets selects one of the boxes with the same code. Numbers count from 0; no number means 0.
+   Needs: the bytes of a file, and a path as UTF-8 without a zero after it, such as MP4_TEXT("moov/trak").
+   Returns: MP4_OK; MP4_BOX_NOT_FOUND if there is no such box or its header isn't whole; MP4_INVALID_DATA if the text is
+   not a path; MP4_OUT_OF_MEMORY.
+   Leaves: the box in `place`, which also has a box that isn't whole. */
 uint32_t mp4_find(const uint8_t *bytes, size_t length, const uint8_t *path, size_t path_length,
                   struct mp4_place *place);
 
-/* Writes the fields of the box at the front of the bytes, which begin with its header, as the text of a JSON object
-   (RFC 8259), like `mp4inspect --json`. The text is UTF-8 without a zero after it; `count` is the number of its bytes.
-   The function reads all boxes that have a function below, and alac, auxC, av1C, btrt, chan, chnl, clap, clli, colr,
-   cslg, dac3, dec3, dfLa, dOps, dvcC, dvvC, elng, enda, fiel, frma, gmin, hmhd, iloc, imir, infe, iods, ipma, irot,
-   ispe, keys, kind, leva, mdcv, mean, mfro, name, nmhd, pasp, pitm, pixi, prft, pssh, saio, saiz, sbgp, schm, sdtp,
-   senc, sgpd, sidx, srat, ssix, sthd, stpp, styp, stz2, subs, tcmi, tenc, text, tfra, tref, vvcC and wvtt. Also
-   MP4_UNKNOWN_BOX for a box of another type, whether it is whole or not. The function sees only the code of a box. So
-   it also reads other boxes as these: an alac in an stsd, a text outside of a gmhd, a mean or a name outside of a ----.
-   Fields have the names of the standards. A number may have 64 bits. A code of four characters is a text, with a
-   character for the number of each byte. Bytes are a text of hexadecimal digits. A fixed-point number is a number with
-   a fraction. Texts have U+FFFD for each part that is not UTF-8. */
+/* Writes the fields of the box at the front of the bytes as the text of a JSON object (RFC 8259), like `mp4inspect
+   --json`. It reads all boxes for which there is a function, such as mp4_mvhd. It also reads alac, auxC, av1C, btrt,
+   chan, chnl, clap, clli, colr, cslg, dac3, dec3, dfLa, dOps, dvcC, dvvC, elng, enda, fiel, frma, gmin, hmhd, iloc,
+   imir, infe, iods, ipma, irot, ispe, keys, kind, leva, mdcv, mean, mfro, name, nmhd, pasp, pitm, pixi, prft, pssh,
+   saio, saiz, sbgp, schm, sdtp, senc, sgpd, sidx, srat, ssix, sthd, stpp, styp, stz2, subs, tcmi, tenc, text, tfra,
+   tref, vvcC and wvtt. It sees only the code of a box. So it also reads other boxes as these: an alac in an stsd, a
+   text outside of a gmhd, a mean or a name outside of a ----. Fields have the names of the standards. A number may have
+   64 bits. A code of four characters is a text, with a character for the number of each byte. Bytes are a text of
+   hexadecimal digits. A fixed-point number is a number with a fraction. Texts have U+FFFD for each part that is not
+   UTF-8.
+   Needs: a whole box at the front of `bytes`, and `places` places at `text`.
+   Returns: MP4_OK, MP4_NO_ROOM or a fault; MP4_UNKNOWN_BOX for a box of another type, whether it is whole or not.
+   Leaves: the text in `text`, as UTF-8 without a zero after it, and the number of its bytes in `count`. */
 uint32_t mp4_fields(const uint8_t *bytes, size_t length, uint8_t *text, size_t places, size_t *count);
 
 /* A walk over the boxes of a file that isn't in memory. It reports each box and then the boxes inside, if the codec
@@ -572,195 +599,487 @@ uint32_t mp4_fields(const uint8_t *bytes, size_t length, uint8_t *text, size_t p
        while (walk.wanted > 0) {
            (read walk.wanted bytes at walk.position of the file)
            status = mp4_walk_next(bytes, walk.wanted, &walk, &box);
-       }
+       } */
 
-   mp4_walk_next returns MP4_END_OF_INPUT if the caller gives fewer bytes than the walk wants, and MP4_BOX_NOT_FOUND
-   after the last box. It doesn't check a walk: the caller ensures that the walk is as mp4_walk_begin or mp4_walk_next
-   left it. The boxes are those of the file if the bytes are those of the file; `what` reports faults of the file. */
+/* Begins a walk over a file.
+   Needs: the number of bytes of the file.
+   Returns: MP4_OK.
+   Leaves: the state of the walk in `walk`, which wants the bytes of the first box. */
 uint32_t mp4_walk_begin(uint64_t length, struct mp4_walk *walk);
+
+/* Reports the next box of a walk, and takes one step. The boxes are those of the file if the bytes are those of the
+   file; `what` reports faults of the file.
+   Needs: a walk as mp4_walk_begin or mp4_walk_next left it, which the function doesn't check; and the `wanted` bytes at
+   its `position` of the file.
+   Returns: MP4_OK; MP4_END_OF_INPUT if there are fewer bytes than the walk wants; MP4_BOX_NOT_FOUND after the last box.
+   Leaves: the box in `box`, and the state after it in `walk`. */
 uint32_t mp4_walk_next(const uint8_t *bytes, size_t length, struct mp4_walk *walk, struct mp4_box *box);
 
-/* Lists the samples of the first track with this track_ID (8.3.2) in the bytes of a file, by the tables stsz or stz2,
-   stsc, stco or co64, stts, ctts and stss of its stbl. The sizes are those of stz2 only if there is no stsz. It doesn't
-   list samples of fragments. Also:
-    - MP4_NO_TRACK;
-    - MP4_BOX_NOT_FOUND if the file has no moov, or the track lacks mdia, minf, stbl or a table that it has to have. A
-      track without stsz, stz2 and chunks has no samples;
-    - MP4_INVALID_DATA also if the sizes of stz2 have another number of bits than 4, 8 or 16, or are not all present;
-    - MP4_SAMPLE_SIZES_DISAGREE to MP4_OFFSETS_DISAGREE.
-   If a file has two moovs, only the first has tracks. */
+/* Lists the samples of the first track with this track_ID (8.3.2), by the tables stsz or stz2, stsc, stco or co64,
+   stts, ctts and stss of its stbl. The sizes are those of stz2 only if there is no stsz. It doesn't list samples of
+   fragments. If a file has two moovs, only the first has tracks.
+   Needs: the bytes of a file or of its moov, and `places` places at `samples`.
+   Returns: MP4_OK, MP4_NO_ROOM or MP4_OUT_OF_MEMORY; MP4_NO_TRACK; MP4_BOX_NOT_FOUND if the file has no moov, or the
+   track lacks mdia, minf, stbl or a table that it has to have (a track without stsz, stz2 and chunks has no samples);
+   MP4_END_OF_INPUT and MP4_INVALID_DATA for a box that can't be read, also if the sizes of stz2 have another number of
+   bits than 4, 8 or 16, or are not all present; MP4_SAMPLE_SIZES_DISAGREE to MP4_OFFSETS_DISAGREE.
+   Leaves: the samples in `samples` and their number in `count`. */
 uint32_t mp4_samples(const uint8_t *bytes, size_t length, uint32_t track_id, struct mp4_sample *samples, size_t places,
                      size_t *count);
 
-/* Lists the samples of all fragments of the first track with this track_ID in the bytes of a file, in the order of the
-   file: those of each traf (8.8.6) whose tfhd has the track_ID, by its runs, the defaults of its tfhd and those of the
-   trex of the track. Without a tfdt the times of a fragment continue those of the fragment before it; those of the
-   first fragment begin where the samples of the track's tables end, by its stts. Offsets count from the base that the
-   tfhd names, else from its moof, or from the end of the data of the traf before it in the moof. The number of samples
-   is at most 2^64 - 1. Also:
-    - MP4_NO_TRACK;
-    - the statuses of mp4_samples for a box of the track that is missing or can't be read;
-    - MP4_BOX_NOT_FOUND if a traf has no tfhd, or a fragment of the track no trex;
-    - MP4_CHUNK_COUNT_DISAGREES, MP4_DURATIONS_DISAGREE and MP4_OFFSETS_DISAGREE, which it finds only if the array has
-      enough places for the samples. */
+/* Lists the samples of all fragments of the first track with this track_ID, in the order of the file: those of each
+   traf (8.8.6) whose tfhd has the track_ID, by its runs, the defaults of its tfhd and those of the trex of the track.
+   Without a tfdt the times of a fragment continue those of the fragment before it; those of the first fragment begin
+   where the samples of the track's tables end, by its stts. Offsets count from the base that the tfhd names, else from
+   its moof, or from the end of the data of the traf before it in the moof. The number of samples is at most 2^64 - 1.
+   Needs: the bytes of a file, and `places` places at `samples`.
+   Returns: the statuses of mp4_samples; MP4_BOX_NOT_FOUND also if a traf has no tfhd, or a fragment of the track no
+   trex; MP4_CHUNK_COUNT_DISAGREES, MP4_DURATIONS_DISAGREE and MP4_OFFSETS_DISAGREE for fragments, which it finds only
+   if the array has enough places for the samples.
+   Leaves: the samples in `samples` and their number in `count`. */
 uint32_t mp4_fragment_samples(const uint8_t *bytes, size_t length, uint32_t track_id, struct mp4_sample *samples,
                               size_t places, size_t *count);
 
-/* Returns the version of the library: MP4_VERSION_NUMBER of the header that it was built with. */
+/* Reports the version of the library.
+   Needs: nothing.
+   Returns: MP4_VERSION_NUMBER of the header that the library was built with, and no status.
+   Leaves: nothing. */
 uint32_t mp4_version(void);
 
-/* Writes the meaning of a status in English, as ASCII characters without a zero after them. */
+/* Writes the meaning of a status in English.
+   Needs: `places` places at `text`.
+   Returns: MP4_OK or MP4_NO_ROOM.
+   Leaves: the text in `text`, as ASCII characters without a zero after them, and their number in `count`. */
 uint32_t mp4_status_text(uint32_t status, uint8_t *text, size_t places, size_t *count);
 
 /*
- * Functions that read tables. The bytes begin with the header of the box, and the box has to be whole. Bytes after the
- * box aren't read, except for fields that the codec reads past the box's size. MP4_INVALID_DATA if the box has another
- * code.
+ * Tables, read. The bytes begin with the header of the box, and the box has to be whole. Bytes after the box aren't
+ * read, except for fields that the codec reads past the box's size. A box with another code is MP4_INVALID_DATA.
  */
 
-/* The sizes of the samples (8.7.3.2), in bytes. */
+/* Reads the sizes of the samples (8.7.3.2), in bytes.
+   Needs: a whole stsz at the front of `bytes`, and `places` places at `sizes`.
+   Returns: MP4_OK, MP4_NO_ROOM or a fault.
+   Leaves: the elements in `sizes`, and their number and the other fields in `table`. */
 uint32_t mp4_stsz(const uint8_t *bytes, size_t length, uint32_t *sizes, size_t places, struct mp4_stsz_table *table);
 
-/* The offsets of the chunks (8.7.5), in bytes from the front of the file. */
+/* Reads the offsets of the chunks (8.7.5), in bytes from the front of the file.
+   Needs: a whole stco at the front of `bytes`, and `places` places at `offsets`.
+   Returns: MP4_OK, MP4_NO_ROOM or a fault.
+   Leaves: the elements in `offsets`, and their number and the other fields in `table`. */
 uint32_t mp4_stco(const uint8_t *bytes, size_t length, uint32_t *offsets, size_t places, struct mp4_table *table);
+
+/* Reads the offsets of the chunks in 64 bits (8.7.5), in bytes from the front of the file.
+   Needs: a whole co64 at the front of `bytes`, and `places` places at `offsets`.
+   Returns: MP4_OK, MP4_NO_ROOM or a fault.
+   Leaves: the elements in `offsets`, and their number and the other fields in `table`. */
 uint32_t mp4_co64(const uint8_t *bytes, size_t length, uint64_t *offsets, size_t places, struct mp4_table *table);
 
-/* The numbers of the sync samples (8.6.2), counted from 1. */
+/* Reads the numbers of the sync samples (8.6.2), counted from 1.
+   Needs: a whole stss at the front of `bytes`, and `places` places at `samples`.
+   Returns: MP4_OK, MP4_NO_ROOM or a fault.
+   Leaves: the elements in `samples`, and their number and the other fields in `table`. */
 uint32_t mp4_stss(const uint8_t *bytes, size_t length, uint32_t *samples, size_t places, struct mp4_table *table);
 
-/* The durations of the samples (8.6.1.2). */
+/* Reads the durations of the samples (8.6.1.2).
+   Needs: a whole stts at the front of `bytes`, and `places` places at `rows`.
+   Returns: MP4_OK, MP4_NO_ROOM or a fault.
+   Leaves: the elements in `rows`, and their number and the other fields in `table`. */
 uint32_t mp4_stts(const uint8_t *bytes, size_t length, struct mp4_stts_row *rows, size_t places,
                   struct mp4_table *table);
 
-/* The composition offsets of the samples (8.6.1.3). */
+/* Reads the composition offsets of the samples (8.6.1.3).
+   Needs: a whole ctts at the front of `bytes`, and `places` places at `rows`.
+   Returns: MP4_OK, MP4_NO_ROOM or a fault.
+   Leaves: the elements in `rows`, and their number and the other fields in `table`. */
 uint32_t mp4_ctts(const uint8_t *bytes, size_t length, struct mp4_ctts_row *rows, size_t places,
                   struct mp4_table *table);
 
-/* The chunks of the samples (8.7.4). */
+/* Reads the chunks of the samples (8.7.4).
+   Needs: a whole stsc at the front of `bytes`, and `places` places at `rows`.
+   Returns: MP4_OK, MP4_NO_ROOM or a fault.
+   Leaves: the elements in `rows`, and their number and the other fields in `table`. */
 uint32_t mp4_stsc(const uint8_t *bytes, size_t length, struct mp4_stsc_row *rows, size_t places,
                   struct mp4_table *table);
 
-/* The edits of a track (8.6.6). */
+/* Reads the edits of a track (8.6.6).
+   Needs: a whole elst at the front of `bytes`, and `places` places at `rows`.
+   Returns: MP4_OK, MP4_NO_ROOM or a fault.
+   Leaves: the elements in `rows`, and their number and the other fields in `table`. */
 uint32_t mp4_elst(const uint8_t *bytes, size_t length, struct mp4_elst_row *rows, size_t places,
                   struct mp4_table *table);
 
-/* The samples of a run of a track fragment (8.8.8). */
+/* Reads the samples of a run of a track fragment (8.8.8).
+   Needs: a whole trun at the front of `bytes`, and `places` places at `rows`.
+   Returns: MP4_OK, MP4_NO_ROOM or a fault.
+   Leaves: the elements in `rows`, and their number and the other fields in `table`. */
 uint32_t mp4_trun(const uint8_t *bytes, size_t length, struct mp4_trun_row *rows, size_t places,
                   struct mp4_trun_table *table);
 
 /*
- * Functions that read headers. The bytes begin with the box, as for the tables.
+ * Headers, read. The bytes begin with the box, as for the tables.
  */
 
+/* Reads the movie header (8.2.2).
+   Needs: a whole mvhd at the front of `bytes`.
+   Returns: MP4_OK or a fault.
+   Leaves: the fields in `box`. */
 uint32_t mp4_mvhd(const uint8_t *bytes, size_t length, struct mp4_mvhd_box *box);
+
+/* Reads a track header (8.3.2).
+   Needs: a whole tkhd at the front of `bytes`.
+   Returns: MP4_OK or a fault.
+   Leaves: the fields in `box`. */
 uint32_t mp4_tkhd(const uint8_t *bytes, size_t length, struct mp4_tkhd_box *box);
+
+/* Reads a media header (8.4.2).
+   Needs: a whole mdhd at the front of `bytes`.
+   Returns: MP4_OK or a fault.
+   Leaves: the fields in `box`. */
 uint32_t mp4_mdhd(const uint8_t *bytes, size_t length, struct mp4_mdhd_box *box);
+
+/* Reads the duration of a movie with fragments (8.8.2).
+   Needs: a whole mehd at the front of `bytes`.
+   Returns: MP4_OK or a fault.
+   Leaves: the fields in `box`. */
 uint32_t mp4_mehd(const uint8_t *bytes, size_t length, struct mp4_mehd_box *box);
+
+/* Reads the number of a fragment (8.8.5).
+   Needs: a whole mfhd at the front of `bytes`.
+   Returns: MP4_OK or a fault.
+   Leaves: the fields in `box`. */
 uint32_t mp4_mfhd(const uint8_t *bytes, size_t length, struct mp4_mfhd_box *box);
+
+/* Reads the header of sound (12.2.2).
+   Needs: a whole smhd at the front of `bytes`.
+   Returns: MP4_OK or a fault.
+   Leaves: the fields in `box`. */
 uint32_t mp4_smhd(const uint8_t *bytes, size_t length, struct mp4_smhd_box *box);
+
+/* Reads the header of video (12.1.2).
+   Needs: a whole vmhd at the front of `bytes`.
+   Returns: MP4_OK or a fault.
+   Leaves: the fields in `box`. */
 uint32_t mp4_vmhd(const uint8_t *bytes, size_t length, struct mp4_vmhd_box *box);
+
+/* Reads the defaults of a track's fragments (8.8.3).
+   Needs: a whole trex at the front of `bytes`.
+   Returns: MP4_OK or a fault.
+   Leaves: the fields in `box`. */
 uint32_t mp4_trex(const uint8_t *bytes, size_t length, struct mp4_trex_box *box);
+
+/* Reads the decode time of a track fragment (8.8.12).
+   Needs: a whole tfdt at the front of `bytes`.
+   Returns: MP4_OK or a fault.
+   Leaves: the fields in `box`. */
 uint32_t mp4_tfdt(const uint8_t *bytes, size_t length, struct mp4_tfdt_box *box);
+
+/* Reads the header of a track fragment (8.8.7).
+   Needs: a whole tfhd at the front of `bytes`.
+   Returns: MP4_OK or a fault.
+   Leaves: the fields in `box`. */
 uint32_t mp4_tfhd(const uint8_t *bytes, size_t length, struct mp4_tfhd_box *box);
 
 /*
- * Functions that read the boxes of strings, references and sample entries. The bytes begin with the box, as for the
- * tables. A string has no zero after it. The number of elements of a list is known only after the list was read, so a
- * call with arrays of 0 places takes as much memory as one that fills them.
+ * Boxes of strings, references and sample entries, read. The bytes begin with the box, as for the tables. A string has
+ * no zero after it. The number of elements of a list is known only after the list was read, so a call with arrays of 0
+ * places takes as much memory as one that fills them.
  */
 
+/* Reads the type of a file (4.3).
+   Needs: a whole ftyp at the front of `bytes`, and `places` places at `brands`.
+   Returns: MP4_OK, MP4_NO_ROOM or a fault.
+   Leaves: the compatible brands in `brands`, and their number and the other fields in `box`. */
 uint32_t mp4_ftyp(const uint8_t *bytes, size_t length, uint32_t *brands, size_t places, struct mp4_ftyp_box *box);
+
+/* Reads the kind of media of a track (8.4.3).
+   Needs: a whole hdlr at the front of `bytes`, and `places` places at `name`.
+   Returns: MP4_OK, MP4_NO_ROOM or a fault.
+   Leaves: the bytes of the name in `name`, and their number and the other fields in `box`. */
 uint32_t mp4_hdlr(const uint8_t *bytes, size_t length, uint8_t *name, size_t places, struct mp4_hdlr_box *box);
+
+/* Reads the value of a metadata item (QuickTime).
+   Needs: a whole data at the front of `bytes`, and `places` places at `value`.
+   Returns: MP4_OK, MP4_NO_ROOM or a fault.
+   Leaves: the bytes of the value in `value`, and their number and the other fields in `box`. */
 uint32_t mp4_data(const uint8_t *bytes, size_t length, uint8_t *value, size_t places, struct mp4_data_box *box);
+
+/* Reads the location of media data (8.7.2).
+   Needs: a whole 'url ' at the front of `bytes`, and `places` places at `location`.
+   Returns: MP4_OK, MP4_NO_ROOM or a fault.
+   Leaves: the bytes of the location in `location`, and their number and the other fields in `box`. */
 uint32_t mp4_url(const uint8_t *bytes, size_t length, uint8_t *location, size_t places, struct mp4_url_box *box);
+
+/* Reads the data references of a track (8.7.2).
+   Needs: a whole dref at the front of `bytes`, and `places` places at `location`.
+   Returns: MP4_OK, MP4_NO_ROOM or a fault.
+   Leaves: the bytes of the location of the last url in `location`, and their number and the other fields in `box`. */
 uint32_t mp4_dref(const uint8_t *bytes, size_t length, uint8_t *location, size_t places, struct mp4_dref_box *box);
+
+/* Reads the data references in a dinf (8.7.1).
+   Needs: a whole dinf at the front of `bytes`, and `places` places at `location`.
+   Returns: MP4_OK, MP4_NO_ROOM or a fault; MP4_BOX_NOT_FOUND if it has no dref.
+   Leaves: the bytes of the location of the last url in `location`, and their number and the other fields in `box`. */
 uint32_t mp4_dinf(const uint8_t *bytes, size_t length, uint8_t *location, size_t places, struct mp4_dref_box *box);
 
-/* MP4_NO_ROOM if one of the three arrays is too short; then nothing is written to any of them. */
+/* Reads an event message (ISO/IEC 23009-1, 5.10.3.3).
+   Needs: a whole emsg at the front of `bytes`, and the places that are given at the three arrays.
+   Returns: MP4_OK, MP4_NO_ROOM if one of the three arrays is too short, or a fault.
+   Leaves: the bytes of the strings and the message in the arrays, and their numbers and the other fields in `box`.
+   After MP4_NO_ROOM all three arrays are as they were. */
 uint32_t mp4_emsg(const uint8_t *bytes, size_t length, uint8_t *scheme_id_uri, size_t scheme_id_uri_places,
                   uint8_t *value, size_t value_places, uint8_t *message_data, size_t message_data_places,
                   struct mp4_emsg_box *box);
 
+/* Reads the configuration of an HEVC decoder (ISO/IEC 14496-15, 8.3.3.1).
+   Needs: a whole hvcC at the front of `bytes`.
+   Returns: MP4_OK or a fault.
+   Leaves: the fields in `box`. */
 uint32_t mp4_hvcc(const uint8_t *bytes, size_t length, struct mp4_hvcc_box *box);
+
+/* Reads a sample entry of HEVC video (ISO/IEC 14496-15, 8.4.1).
+   Needs: a whole hev1 at the front of `bytes`.
+   Returns: MP4_OK or a fault.
+   Leaves: the fields in `box`. */
 uint32_t mp4_hev1(const uint8_t *bytes, size_t length, struct mp4_hev1_box *box);
+
+/* Reads the configuration of a VP9 decoder.
+   Needs: a whole vpcC at the front of `bytes`.
+   Returns: MP4_OK or a fault.
+   Leaves: the fields in `box`. */
 uint32_t mp4_vpcc(const uint8_t *bytes, size_t length, struct mp4_vpcc_box *box);
+
+/* Reads a sample entry of VP9 video.
+   Needs: a whole vp09 at the front of `bytes`.
+   Returns: MP4_OK or a fault.
+   Leaves: the fields in `box`. */
 uint32_t mp4_vp09(const uint8_t *bytes, size_t length, struct mp4_vp09_box *box);
+
+/* Reads a sample entry of timed text (3GPP TS 26.245, 5.16).
+   Needs: a whole tx3g at the front of `bytes`.
+   Returns: MP4_OK or a fault.
+   Leaves: the fields in `box`. */
 uint32_t mp4_tx3g(const uint8_t *bytes, size_t length, struct mp4_tx3g_box *box);
+
+/* Reads the descriptors of MPEG-4 audio (ISO/IEC 14496-14, 5.6).
+   Needs: a whole esds at the front of `bytes`.
+   Returns: MP4_OK or a fault.
+   Leaves: the fields in `box`. */
 uint32_t mp4_esds(const uint8_t *bytes, size_t length, struct mp4_esds_box *box);
+
+/* Reads a sample entry of MPEG-4 audio (ISO/IEC 14496-14, 5.6).
+   Needs: a whole mp4a at the front of `bytes`.
+   Returns: MP4_OK or a fault.
+   Leaves: the fields in `box`. */
 uint32_t mp4_mp4a(const uint8_t *bytes, size_t length, struct mp4_mp4a_box *box);
 
-/* Write the lengths of the parameter sets to `lengths`, and their bytes to `set_bytes`. MP4_NO_ROOM if one of the two
-   is too short; then nothing is written to either. In an stsd only an avc1 has parameter sets. */
+/* Reads the configuration of an AVC decoder (ISO/IEC 14496-15, 5.3.3.1).
+   Needs: a whole avcC at the front of `bytes`, `places` places at `lengths`, and `byte_places` places at `set_bytes`.
+   Returns: MP4_OK, MP4_NO_ROOM if one of the two arrays is too short, or a fault.
+   Leaves: the lengths of the parameter sets in `lengths`, their bytes in `set_bytes`, and their numbers and the other
+   fields in `box`. After MP4_NO_ROOM both arrays are as they were. */
 uint32_t mp4_avcc(const uint8_t *bytes, size_t length, size_t *lengths, size_t places, uint8_t *set_bytes,
                   size_t byte_places, struct mp4_avcc_box *box);
+
+/* Reads a sample entry of AVC video (ISO/IEC 14496-15, 5.4.2).
+   Needs: a whole avc1 at the front of `bytes`, `places` places at `lengths`, and `byte_places` places at `set_bytes`.
+   Returns: MP4_OK, MP4_NO_ROOM if one of the two arrays is too short, or a fault.
+   Leaves: the lengths of the parameter sets in `lengths`, their bytes in `set_bytes`, and their numbers and the other
+   fields in `box`. After MP4_NO_ROOM both arrays are as they were. */
 uint32_t mp4_avc1(const uint8_t *bytes, size_t length, size_t *lengths, size_t places, uint8_t *set_bytes,
                   size_t byte_places, struct mp4_avc1_box *box);
+
+/* Reads the first sample entry of a track (8.5.2).
+   Needs: a whole stsd at the front of `bytes`, `places` places at `lengths`, and `byte_places` places at `set_bytes`.
+   Returns: MP4_OK, MP4_NO_ROOM if one of the two arrays is too short, or a fault.
+   Leaves: the lengths of the parameter sets in `lengths`, their bytes in `set_bytes`, and their numbers and the other
+   fields in `box`. Only an avc1 has parameter sets. After MP4_NO_ROOM both arrays are as they were. */
 uint32_t mp4_stsd(const uint8_t *bytes, size_t length, size_t *lengths, size_t places, uint8_t *set_bytes,
                   size_t byte_places, struct mp4_stsd_box *box);
 
 /*
- * Functions that write a box. They put the box at the front of `bytes`, beginning with its header, and the number of
- * its bytes into `length`. MP4_NO_ROOM if there are fewer places: then nothing is written to `bytes`, but `length` is
- * set. MP4_INVALID_DATA if the box can't be written: a number doesn't fit the bits of its field (24 for flags, 32 for
- * times of version 0), the version of a header with times isn't 0 or 1, or the box would have 2^32 bytes or more.
+ * Headers, written. A function that writes puts the box at the front of `bytes`, beginning with its header. A box can't
+ * be written if a number doesn't fit the bits of its field (24 for flags, 32 for times of version 0), the version of a
+ * header with times isn't 0 or 1, or the box would have 2^32 bytes or more.
  */
 
+/* Writes the movie header (8.2.2).
+   Needs: the fields in `box`, and `places` places at `bytes`.
+   Returns: MP4_OK, MP4_NO_ROOM, MP4_INVALID_DATA if the box can't be written, or MP4_OUT_OF_MEMORY.
+   Leaves: the box in `bytes`, and the number of its bytes in `length`. */
 uint32_t mp4_write_mvhd(const struct mp4_mvhd_box *box, uint8_t *bytes, size_t places, size_t *length);
+
+/* Writes a track header (8.3.2).
+   Needs: the fields in `box`, and `places` places at `bytes`.
+   Returns: MP4_OK, MP4_NO_ROOM, MP4_INVALID_DATA if the box can't be written, or MP4_OUT_OF_MEMORY.
+   Leaves: the box in `bytes`, and the number of its bytes in `length`. */
 uint32_t mp4_write_tkhd(const struct mp4_tkhd_box *box, uint8_t *bytes, size_t places, size_t *length);
+
+/* Writes a media header (8.4.2).
+   Needs: the fields in `box`, and `places` places at `bytes`.
+   Returns: MP4_OK, MP4_NO_ROOM, MP4_INVALID_DATA if the box can't be written, or MP4_OUT_OF_MEMORY.
+   Leaves: the box in `bytes`, and the number of its bytes in `length`. */
 uint32_t mp4_write_mdhd(const struct mp4_mdhd_box *box, uint8_t *bytes, size_t places, size_t *length);
+
+/* Writes the duration of a movie with fragments (8.8.2).
+   Needs: the fields in `box`, and `places` places at `bytes`.
+   Returns: MP4_OK, MP4_NO_ROOM, MP4_INVALID_DATA if the box can't be written, or MP4_OUT_OF_MEMORY.
+   Leaves: the box in `bytes`, and the number of its bytes in `length`. */
 uint32_t mp4_write_mehd(const struct mp4_mehd_box *box, uint8_t *bytes, size_t places, size_t *length);
+
+/* Writes the number of a fragment (8.8.5).
+   Needs: the fields in `box`, and `places` places at `bytes`.
+   Returns: MP4_OK, MP4_NO_ROOM, MP4_INVALID_DATA if the box can't be written, or MP4_OUT_OF_MEMORY.
+   Leaves: the box in `bytes`, and the number of its bytes in `length`. */
 uint32_t mp4_write_mfhd(const struct mp4_mfhd_box *box, uint8_t *bytes, size_t places, size_t *length);
+
+/* Writes the header of sound (12.2.2).
+   Needs: the fields in `box`, and `places` places at `bytes`.
+   Returns: MP4_OK, MP4_NO_ROOM, MP4_INVALID_DATA if the box can't be written, or MP4_OUT_OF_MEMORY.
+   Leaves: the box in `bytes`, and the number of its bytes in `length`. */
 uint32_t mp4_write_smhd(const struct mp4_smhd_box *box, uint8_t *bytes, size_t places, size_t *length);
+
+/* Writes the header of video (12.1.2).
+   Needs: the fields in `box`, and `places` places at `bytes`.
+   Returns: MP4_OK, MP4_NO_ROOM, MP4_INVALID_DATA if the box can't be written, or MP4_OUT_OF_MEMORY.
+   Leaves: the box in `bytes`, and the number of its bytes in `length`. */
 uint32_t mp4_write_vmhd(const struct mp4_vmhd_box *box, uint8_t *bytes, size_t places, size_t *length);
+
+/* Writes the defaults of a track's fragments (8.8.3).
+   Needs: the fields in `box`, and `places` places at `bytes`.
+   Returns: MP4_OK, MP4_NO_ROOM, MP4_INVALID_DATA if the box can't be written, or MP4_OUT_OF_MEMORY.
+   Leaves: the box in `bytes`, and the number of its bytes in `length`. */
 uint32_t mp4_write_trex(const struct mp4_trex_box *box, uint8_t *bytes, size_t places, size_t *length);
+
+/* Writes the decode time of a track fragment (8.8.12).
+   Needs: the fields in `box`, and `places` places at `bytes`.
+   Returns: MP4_OK, MP4_NO_ROOM, MP4_INVALID_DATA if the box can't be written, or MP4_OUT_OF_MEMORY.
+   Leaves: the box in `bytes`, and the number of its bytes in `length`. */
 uint32_t mp4_write_tfdt(const struct mp4_tfdt_box *box, uint8_t *bytes, size_t places, size_t *length);
+
+/* Writes the header of a track fragment (8.8.7).
+   Needs: the fields in `box`, and `places` places at `bytes`.
+   Returns: MP4_OK, MP4_NO_ROOM, MP4_INVALID_DATA if the box can't be written, or MP4_OUT_OF_MEMORY.
+   Leaves: the box in `bytes`, and the number of its bytes in `length`. */
 uint32_t mp4_write_tfhd(const struct mp4_tfhd_box *box, uint8_t *bytes, size_t places, size_t *length);
 
-/* The tables have `count` rows. The count in `table` has no effect. Fields of a trun whose flags aren't set are not
-   written. Also MP4_INVALID_DATA if:
-    - stsz doesn't have sample_count sizes, or has sizes although sample_size isn't 0;
-    - a first_chunk of stsc is below the one before it, or the number of a first sample has more than 32 bits
-      (first_sample has no effect);
-    - a time of an elst of a version other than 1 has more than 32 bits;
-    - the rows and flags of trun give it fields for each sample, but not sample_count of them. */
+/*
+ * Tables, written. The count in `table` has no effect.
+ */
 
+/* Writes the sizes of samples.
+   Needs: `count` elements at `sizes`, the other fields in `table`, and `places` places at `bytes`.
+   Returns: MP4_OK, MP4_NO_ROOM, MP4_INVALID_DATA if the box can't be written (also if there are not sample_count sizes,
+   or sizes although sample_size isn't 0), or MP4_OUT_OF_MEMORY.
+   Leaves: the box in `bytes`, and the number of its bytes in `length`. */
 uint32_t mp4_write_stsz(const struct mp4_stsz_table *table, const uint32_t *sizes, size_t count, uint8_t *bytes,
                         size_t places, size_t *length);
+
+/* Writes the offsets of chunks.
+   Needs: `count` elements at `offsets`, the other fields in `table`, and `places` places at `bytes`.
+   Returns: MP4_OK, MP4_NO_ROOM, MP4_INVALID_DATA if the box can't be written, or MP4_OUT_OF_MEMORY.
+   Leaves: the box in `bytes`, and the number of its bytes in `length`. */
 uint32_t mp4_write_stco(const struct mp4_table *table, const uint32_t *offsets, size_t count, uint8_t *bytes,
                         size_t places, size_t *length);
+
+/* Writes the offsets of chunks in 64 bits.
+   Needs: `count` elements at `offsets`, the other fields in `table`, and `places` places at `bytes`.
+   Returns: MP4_OK, MP4_NO_ROOM, MP4_INVALID_DATA if the box can't be written, or MP4_OUT_OF_MEMORY.
+   Leaves: the box in `bytes`, and the number of its bytes in `length`. */
 uint32_t mp4_write_co64(const struct mp4_table *table, const uint64_t *offsets, size_t count, uint8_t *bytes,
                         size_t places, size_t *length);
+
+/* Writes the numbers of the sync samples.
+   Needs: `count` elements at `samples`, the other fields in `table`, and `places` places at `bytes`.
+   Returns: MP4_OK, MP4_NO_ROOM, MP4_INVALID_DATA if the box can't be written, or MP4_OUT_OF_MEMORY.
+   Leaves: the box in `bytes`, and the number of its bytes in `length`. */
 uint32_t mp4_write_stss(const struct mp4_table *table, const uint32_t *samples, size_t count, uint8_t *bytes,
                         size_t places, size_t *length);
+
+/* Writes the durations of samples.
+   Needs: `count` elements at `rows`, the other fields in `table`, and `places` places at `bytes`.
+   Returns: MP4_OK, MP4_NO_ROOM, MP4_INVALID_DATA if the box can't be written, or MP4_OUT_OF_MEMORY.
+   Leaves: the box in `bytes`, and the number of its bytes in `length`. */
 uint32_t mp4_write_stts(const struct mp4_table *table, const struct mp4_stts_row *rows, size_t count, uint8_t *bytes,
                         size_t places, size_t *length);
+
+/* Writes the composition offsets of samples.
+   Needs: `count` elements at `rows`, the other fields in `table`, and `places` places at `bytes`.
+   Returns: MP4_OK, MP4_NO_ROOM, MP4_INVALID_DATA if the box can't be written, or MP4_OUT_OF_MEMORY.
+   Leaves: the box in `bytes`, and the number of its bytes in `length`. */
 uint32_t mp4_write_ctts(const struct mp4_table *table, const struct mp4_ctts_row *rows, size_t count, uint8_t *bytes,
                         size_t places, size_t *length);
+
+/* Writes the chunks of samples, in which first_sample has no effect.
+   Needs: `count` elements at `rows`, the other fields in `table`, and `places` places at `bytes`.
+   Returns: MP4_OK, MP4_NO_ROOM, MP4_INVALID_DATA if the box can't be written (also if a first_chunk is below the one
+   before it, or the number of a first sample has more than 32 bits), or MP4_OUT_OF_MEMORY.
+   Leaves: the box in `bytes`, and the number of its bytes in `length`. */
 uint32_t mp4_write_stsc(const struct mp4_table *table, const struct mp4_stsc_row *rows, size_t count, uint8_t *bytes,
                         size_t places, size_t *length);
+
+/* Writes the edits of a track.
+   Needs: `count` elements at `rows`, the other fields in `table`, and `places` places at `bytes`.
+   Returns: MP4_OK, MP4_NO_ROOM, MP4_INVALID_DATA if the box can't be written (also if a time of a version other than 1
+   has more than 32 bits), or MP4_OUT_OF_MEMORY.
+   Leaves: the box in `bytes`, and the number of its bytes in `length`. */
 uint32_t mp4_write_elst(const struct mp4_table *table, const struct mp4_elst_row *rows, size_t count, uint8_t *bytes,
                         size_t places, size_t *length);
+
+/* Writes the samples of a run; fields whose flags aren't set are not written.
+   Needs: `count` elements at `rows`, the other fields in `table`, and `places` places at `bytes`.
+   Returns: MP4_OK, MP4_NO_ROOM, MP4_INVALID_DATA if the box can't be written (also if the rows and flags give it fields
+   for each sample, but not sample_count of them), or MP4_OUT_OF_MEMORY.
+   Leaves: the box in `bytes`, and the number of its bytes in `length`. */
 uint32_t mp4_write_trun(const struct mp4_trun_table *table, const struct mp4_trun_row *rows, size_t count,
                         uint8_t *bytes, size_t places, size_t *length);
 
-/* The number after each array is the number of its elements in boxes of strings, references and sample entries. The
-   counts in `box` have no effect, except those of an avcC. Also MP4_INVALID_DATA if:
-    - a name, a location, a scheme or a value isn't UTF-8;
-    - a scheme or a value has a zero byte;
-    - the version of an emsg isn't 0 or 1;
-    - the `entry` of an stsd is none of the five codes and not 0, or a number of its entry doesn't fit;
-    - the number of lengths of an avc1 isn't the sum of sequence_count and picture_count, or the number of its set_bytes
-      isn't the sum of the lengths. */
+/*
+ * Boxes of strings, references and sample entries, written. The counts in `box` have no effect, except those of an
+ * avcC.
+ */
 
+/* Writes the type of a file.
+   Needs: `count` elements at `brands`, the other fields in `box`, and `places` places at `bytes`.
+   Returns: MP4_OK, MP4_NO_ROOM, MP4_INVALID_DATA if the box can't be written, or MP4_OUT_OF_MEMORY.
+   Leaves: the box in `bytes`, and the number of its bytes in `length`. */
 uint32_t mp4_write_ftyp(const struct mp4_ftyp_box *box, const uint32_t *brands, size_t count, uint8_t *bytes,
                         size_t places, size_t *length);
+
+/* Writes the kind of media of a track.
+   Needs: `count` elements at `name`, the other fields in `box`, and `places` places at `bytes`.
+   Returns: MP4_OK, MP4_NO_ROOM, MP4_INVALID_DATA if the box can't be written (also if the name isn't UTF-8), or
+   MP4_OUT_OF_MEMORY.
+   Leaves: the box in `bytes`, and the number of its bytes in `length`. */
 uint32_t mp4_write_hdlr(const struct mp4_hdlr_box *box, const uint8_t *name, size_t count, uint8_t *bytes,
                         size_t places, size_t *length);
+
+/* Writes the data references of a track: none, or a url with this location.
+   Needs: `count` elements at `location`, the other fields in `box`, and `places` places at `bytes`.
+   Returns: MP4_OK, MP4_NO_ROOM, MP4_INVALID_DATA if the box can't be written (also if the location isn't UTF-8), or
+   MP4_OUT_OF_MEMORY.
+   Leaves: the box in `bytes`, and the number of its bytes in `length`. */
 uint32_t mp4_write_dref(const struct mp4_dref_box *box, const uint8_t *location, size_t count, uint8_t *bytes,
                         size_t places, size_t *length);
+
+/* Writes an event message.
+   Needs: the bytes of the strings and the message in three arrays with their numbers, the other fields in `box`, and
+   `places` places at `bytes`.
+   Returns: MP4_OK, MP4_NO_ROOM, MP4_INVALID_DATA if the box can't be written (also if a string isn't UTF-8 or has a
+   zero byte, or the version isn't 0 or 1), or MP4_OUT_OF_MEMORY.
+   Leaves: the box in `bytes`, and the number of its bytes in `length`. */
 uint32_t mp4_write_emsg(const struct mp4_emsg_box *box, const uint8_t *scheme_id_uri, size_t scheme_id_uri_count,
                         const uint8_t *value, size_t value_count, const uint8_t *message_data,
                         size_t message_data_count, uint8_t *bytes, size_t places, size_t *length);
+
+/* Writes a sample description with the entry whose code is in `entry`, or without an entry if that is 0. Only an avc1
+   has parameter sets.
+   Needs: `count` lengths of parameter sets at `lengths`, their `byte_count` bytes at `set_bytes`, the other fields in
+   `box`, and `places` places at `bytes`.
+   Returns: MP4_OK, MP4_NO_ROOM, MP4_INVALID_DATA if the box can't be written (also if the `entry` is none of the five
+   codes and not 0, the number of lengths of an avc1 isn't the sum of sequence_count and picture_count, or the number of
+   bytes isn't the sum of the lengths), or MP4_OUT_OF_MEMORY.
+   Leaves: the box in `bytes`, and the number of its bytes in `length`. */
 uint32_t mp4_write_stsd(const struct mp4_stsd_box *box, const size_t *lengths, size_t count, const uint8_t *set_bytes,
                         size_t byte_count, uint8_t *bytes, size_t places, size_t *length);
 
@@ -775,6 +1094,15 @@ uint32_t mp4_write_stsd(const struct mp4_stsd_box *box, const size_t *lengths, s
 #else
 #define MP4_INLINE static
 #endif
+
+/* Writes the four characters of a code and a zero to `text`, and returns `text`. */
+MP4_INLINE char *mp4_code_text(uint32_t code, char *text) {
+    int i;
+    for (i = 0; i < 4; i++)
+        text[i] = (char)(unsigned char)(code >> (24 - 8 * i));
+    text[4] = 0;
+    return text;
+}
 
 MP4_INLINE const void *mp4_from(const void *array) {
     static const uint64_t nothing = 0;

@@ -13,7 +13,7 @@ includedir=${{prefix}}/include
 Name: mp4-box-codec
 Description: The boxes of MP4 files, read and written exactly{note}
 Version: {version}
-Libs: -L${{libdir}} {search}-l{library}
+Libs: {libs}
 Cflags: -I${{includedir}}
 """
 # The folders of completions below a prefix, by the endings of their files in docs/completions. A file without an ending
@@ -36,34 +36,44 @@ def escaped(prefix):
     return re.sub(r"([\s\"'\\#&;<>|*?`{}])", r"\\\1", prefix)
 
 
-def config(prefix, folder="lib", is_searched=False, is_proved=True):
-    """Returns the text of the pkg-config file of an installation. `prefix` is its prefix as text of that file, and
+def configs(prefix, folder="lib", is_searched=False, is_proved=True):
+    """Returns the texts of the pkg-config files of an installation by their names: one for the library that the linker
+    finds, and one for the static library, which needs nothing else. `prefix` is the prefix as text of these files, and
     `folder` that of the libraries below it. A program finds the shared library by itself if the system searches the
     folder (`is_searched`)."""
-    search = "" if is_searched else "-Wl,-rpath,${libdir} "
+    search, library = "" if is_searched else "-Wl,-rpath,${libdir} ", building.LIBRARY
     note = "" if is_proved else " (this build is not proved)"
-    return CONFIG.format(
-        prefix=prefix, folder=folder, note=note, version=version(), library=building.LIBRARY, search=search)
+    linked = {"": f"-L${{libdir}} {search}-l{library}", "-static": f"${{libdir}}/lib{library}.a"}
+    return {f"{library}{kind}.pc": CONFIG.format(prefix=prefix, folder=folder, note=note, version=version(), libs=libs)
+            for kind, libs in linked.items()}
+
+
+def functions_of(page):
+    """Returns the functions that the man page `page` describes: the names of its first section."""
+    return re.findall(r"\w+", re.search(r"^\.SH NAME\n(.*?)\\-", page, re.M | re.S)[1])
 
 
 def pages():
-    """Returns the man pages and the completions for shells by their paths below a prefix, with their bytes."""
+    """Returns the man pages and the completions for shells by their paths below a prefix, each with its content and its
+    mode as `parts` does. The name of each function is a link to the page that describes it."""
     documents, found = os.path.join(building.TOP, "docs"), {}
-    for name in sorted(os.listdir(os.path.join(documents, "man"))):
-        with open(os.path.join(documents, "man", name), "rb") as text:
-            found[f"share/man/man{name[-1]}/{name}"] = text.read().replace(b"@VERSION@", version().encode())
+    for page in sorted(os.listdir(os.path.join(documents, "man"))):
+        with open(os.path.join(documents, "man", page), encoding="utf-8") as file:
+            text, folder = file.read().replace("@VERSION@", version()), f"share/man/man{page[-1]}"
+        found.update((f"{folder}/{name}.{page[-1]}", (page, None)) for name in functions_of(text))
+        found[f"{folder}/{page}"] = (text.encode(), 0o644)
     for name in sorted(os.listdir(os.path.join(documents, "completions"))):
         stem, ending = os.path.splitext(name)
         with open(os.path.join(documents, "completions", name), "rb") as text:
-            found[f"{COMPLETIONS[ending]}/{stem if ending == '.bash' else name}"] = text.read()
+            found[f"{COMPLETIONS[ending]}/{stem if ending == '.bash' else name}"] = (text.read(), 0o644)
     return found
 
 
-def parts(built, configuration, folder="lib"):
+def parts(built, configurations, folder="lib"):
     """Returns the files of an installation by their paths below the prefix, each with its content and its mode.
     The content is the path of a file to copy, or the bytes themselves. The content of a link is its target, and its
-    mode is None. `built` is the folder of the programs and libraries, `configuration` the text of the pkg-config file,
-    and `folder` that of the libraries below the prefix."""
+    mode is None. `built` is the folder of the programs and libraries, `configurations` has the texts of the pkg-config
+    files by their names, and `folder` is that of the libraries below the prefix."""
     library, whole = building.LIBRARY, f"{building.SONAME}.{version().partition('.')[2]}"
     found = {f"bin/{name}": (os.path.join(built, crate), 0o755) for crate, (name, _) in building.PROGRAMS.items()}
     found[f"{folder}/lib{library}.a"] = (os.path.join(built, f"lib{library}.a"), 0o644)
@@ -71,6 +81,5 @@ def parts(built, configuration, folder="lib"):
     found[f"{folder}/{building.SONAME}"] = (whole, None)
     found[f"{folder}/lib{library}.so"] = (building.SONAME, None)
     found[f"include/{library}.h"] = (os.path.join(built, f"{library}.h"), 0o644)
-    found[f"{folder}/pkgconfig/{library}.pc"] = (configuration.encode(), 0o644)
-    found.update((path, (text, 0o644)) for path, text in pages().items())
-    return found
+    found.update((f"{folder}/pkgconfig/{name}", (text.encode(), 0o644)) for name, text in configurations.items())
+    return {**found, **pages()}

@@ -197,7 +197,8 @@ class Header:
             rf"/\*((?:(?!\*/).)*)\*/\n(?:uint32_t [^;]*;\n)*?uint32_t mp4_{name}\(", self.text, re.S)[1].split())
         section = re.search(r"\(([^()]*)\)", said)[1]
         section = f"ISO/IEC 14496-12, {section}" if re.match(r"\d", section) else section
-        title = re.sub(r"^\w+: ", "", re.sub(r" \([^()]*\)", "", said, count=1)).split(". ")[0].rstrip(".")
+        # The comment of a function begins with a verb.
+        title = re.sub(r"^(\w+:|Reads) ", "", re.sub(r" \([^()]*\)", "", said, count=1)).split(". ")[0].rstrip(".")
         return f"{title[:1].upper()}{title[1:]} (`{CODES[name].strip()}`, {section})."
 
     def members(self, name):

@@ -12,6 +12,7 @@ import tempfile
 import unittest
 
 from tests.built import TOP, source
+from tests.files.stored import stored
 
 CC = os.environ.get("CC") or "cc"
 STRICT = ["-std=c99", "-pedantic", "-Wall", "-Wextra", "-Werror"]
@@ -153,6 +154,13 @@ class Library(Calls, unittest.TestCase):
         mdhd = b"\0\0\0\x20mdhd" + bytes(14) + b"\x75\x30\0\1\x5f\x90\x15\xc7\0\0"
         stts = b"\0\0\0\x18stts" + bytes(7) + b"\1\0\0\0\x5a\0\0\3\xe8"
         self.assertEqual(self.succeeds(self.compiled("write")), mdhd + stts)
+
+    def test_threads(self):
+        with open(os.path.join(self.folder, "file"), "wb") as file:
+            file.write(stored("plain"))
+        with open(os.path.join(self.folder, "file"), "rb") as file:
+            said = self.succeeds(self.compiled("threads", "-pthread"), stdin=file).decode()
+        self.assertEqual(said, "threads: 8 threads asked 50 times, and agree\n")
 
     def test_tree(self):
         path = os.path.join(self.folder, "file")

@@ -7,6 +7,7 @@ int main(int arguments, char **argument) {
     struct mp4_walk walk;
     struct mp4_box box;
     uint8_t bytes[28];
+    char code[5];
     uint32_t status = MP4_END_OF_INPUT;
     if (file != NULL && fseek(file, 0, SEEK_END) == 0)
         status = mp4_walk_begin((uint64_t)ftell(file), &walk);
@@ -14,8 +15,7 @@ int main(int arguments, char **argument) {
         if (fseek(file, (long)walk.position, SEEK_SET) != 0 || fread(bytes, 1, walk.wanted, file) != walk.wanted)
             return MP4_END_OF_INPUT;
         status = mp4_walk_next(bytes, walk.wanted, &walk, &box);
-        printf("%*s%c%c%c%c @%lu +%lu\n", (int)box.depth * 2, "", (int)(box.code >> 24), (int)(box.code >> 16 & 255),
-               (int)(box.code >> 8 & 255), (int)(box.code & 255), (unsigned long)box.position,
+        printf("%*s%s @%lu +%lu\n", (int)box.depth * 2, "", mp4_code_text(box.code, code), (unsigned long)box.position,
                (unsigned long)box.length);
     }
     return (int)status;

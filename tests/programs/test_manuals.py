@@ -6,7 +6,10 @@ status, or has one that doesn't exist.
   the statuses of specs/Outcome.antt of its crate, and 2 for misuse.
 - mp4boxes(1) has the words of the usage line, with `<` in the synopsis and in an example of each. It has the statuses
   of crates/mp4_boxes/specs/Outcome.antt.
-- mp4_box_codec(3) has the functions of the header with their arguments, and its statuses with their numbers.
+- The pages of the functions of the library for C are what tools/manuals.py makes from the header. Each function of the
+  header is on one of them, with its arguments. mp4_box_codec(3) names these pages, and has the statuses of the header
+  with their numbers.
+- The header says of each function what it needs, returns and leaves.
 - groff lays out each page without a warning."""
 
 import os
@@ -16,6 +19,7 @@ import subprocess
 import unittest
 
 from tests.built import TOP, built, source
+from tools import manuals
 
 wrong = []
 
@@ -125,16 +129,25 @@ def compare_boxes(program):
 
 
 def compare_library():
-    """Compares mp4_box_codec(3) with the header."""
+    """Compares the pages of the library for C with the header."""
     page, header = Page("mp4_box_codec.3"), source("include", "mp4_box_codec.h")
     function = r"uint32_t (mp4_\w+)\(([^;]*)\);"
-    declared = {(name, " ".join(given.split())) for name, given in re.findall(rf"^{function}", header, re.M)}
-    lines = re.findall(r'^\.B "?(.*?)"?$', page.sections.get("SYNOPSIS", ""), re.M)
-    shown = {(name, " ".join(given.split())) for name, given in re.findall(function, " ".join(lines))}
-    compare(page.name, "function", {f"{name}({given})" for name, given in shown},
+    declared = [(name, " ".join(given.split())) for name, given in re.findall(rf"^{function}", header, re.M)]
+    shown = []
+    for name in manuals.PAGES:
+        lines = re.findall(r'^\.B "?(.*?)"?$', Page(f"{name}.3").sections.get("SYNOPSIS", ""), re.M)
+        shown += [(name, " ".join(given.split())) for name, given in re.findall(function, " ".join(lines))]
+    compare("docs/man", "function", {f"{name}({given})" for name, given in shown},
             {f"{name}({given})" for name, given in declared})
+    if len(shown) != len(declared):
+        wrong.append(f"the pages have {len(shown)} functions, and the header {len(declared)}")
     numbers = {f"{name} ({number})" for name, number in re.findall(r"^    (MP4_\w+) = (\d+),?$", header, re.M)}
     compare(page.name, "status", set(page.tagged("RETURN VALUE")), numbers)
+    compare(page.name, "page", set(page.tagged("DESCRIPTION")), {f"{name}(3)" for name in manuals.PAGES})
+    lines = r".*\n(?:   .*\n)*?"
+    whole = rf"^   Needs: {lines}   Returns: {lines}   Leaves: (?:.*\n   )*?.* \*/\nuint32_t (\w+)"
+    said = re.findall(whole, header, re.M)
+    compare("include/mp4_box_codec.h", "whole comment of", set(said), {name for name, _ in declared})
 
 
 class Manuals(unittest.TestCase):
@@ -156,6 +169,10 @@ class Manuals(unittest.TestCase):
     def test_library(self):
         compare_library()
         self.assertEqual(wrong, [])
+
+    def test_pages_of_the_header(self):
+        for path, text in manuals.files().items():
+            self.assertEqual(source(*path.split("/")), text, f"{path}: run tools/manuals.py --write")
 
     @unittest.skipUnless(shutil.which("groff"), "groff is not on this machine")
     def test_layout(self):

@@ -17,6 +17,7 @@ The library that is installed is that of TEST_LIBRARY if it is set, otherwise a 
 import concurrent.futures
 import json
 import os
+import re
 import shutil
 import signal
 import subprocess
@@ -259,7 +260,7 @@ def quoted(it, work):
     wanted = ["Show a file", "Only its faults", "A program in C", "The same, static", "Pages", "Remove it"]
     if sorted(commands) != sorted(wanted):
         fail(f"other commands are printed than {wanted}: {said}")
-    tools = {"A program in C": "pkg-config", "Pages": "man"}
+    tools = {"A program in C": "pkg-config", "The same, static": "pkg-config", "Pages": "man"}
     for name in wanted:
         command = commands[name]
         if not shutil.which(tools.get(name, "sh")):
@@ -394,8 +395,21 @@ class Install(unittest.TestCase):
     @HAS_PKG_CONFIG
     def test_program_in_c_by_pkg_config(self):
         env = {**os.environ, "PKG_CONFIG_PATH": os.path.join(self.it.prefix, "lib", "pkgconfig")}
-        words = ["pkg-config", "--cflags", "--libs", "mp4_box_codec"]
-        compiled(self.it, *subprocess.run(words, env=env, capture_output=True, text=True, check=True).stdout.split())
+        for library in ("mp4_box_codec", "mp4_box_codec-static"):
+            words = ["pkg-config", "--cflags", "--libs", library]
+            said = subprocess.run(words, env=env, capture_output=True, text=True, check=True).stdout.split()
+            compiled(self.it, *said)
+            archive = os.path.join(self.it.prefix, "lib", "libmp4_box_codec.a")
+            self.assertEqual(archive in said, library.endswith("static"), said)
+            self.assertEqual("-lmp4_box_codec" in said, not library.endswith("static"), said)
+
+    @unittest.skipUnless(shutil.which("man"), "man is not on this machine")
+    def test_pages_of_functions(self):
+        pages, env = os.path.join(self.it.prefix, "share", "man"), {**os.environ, "MANPAGER": "cat"}
+        for name in ("mp4_box_codec", "mp4_find", "mp4_write_stts", "mp4inspect"):
+            words = ["man", "-M", pages, name]
+            said = subprocess.run(words, env=env, capture_output=True, text=True, check=True).stdout
+            self.assertIn(name, re.sub(".\b", "", said), name)
 
     def test_program_in_c_that_is_static(self):
         compiled(self.it, os.path.join(self.it.prefix, "lib", "libmp4_box_codec.a"))

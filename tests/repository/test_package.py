@@ -49,6 +49,7 @@ AUTHOR = {f"GIT_{who}_{what}": it for who in ("AUTHOR", "COMMITTER") for what, i
 TIME = 1767323045
 PROGRAMS = sorted(f"bin/{name}" for name, _ in building.PROGRAMS.values())
 SHARED = f"libmp4_box_codec.so.{VERSION}"
+CONFIGS = ("pkgconfig/mp4_box_codec.pc", "pkgconfig/mp4_box_codec-static.pc")
 DOCUMENTS = "share/doc/mp4-box-codec"
 # The library in a wheel, which is in the folder of the package for Python.
 IN_WHEEL = f"mp4_box_codec/{building.SONAME}"
@@ -217,7 +218,7 @@ class Packages(Working):
             self.assertEqual(it.mode, 0o777 if it.issym() else 0o755 if is_run else 0o644, it.name)
         wanted = [*PROGRAMS, "include/mp4_box_codec.h", *self.documents()]
         wanted += [f"lib/{it}" for it in (
-            "libmp4_box_codec.a", "libmp4_box_codec.so", building.SONAME, SHARED, "pkgconfig/mp4_box_codec.pc")]
+            "libmp4_box_codec.a", "libmp4_box_codec.so", building.SONAME, SHARED, *CONFIGS)]
         wanted += contents.pages()
         wanted += [f"{DOCUMENTS}/{it}" for it in ("LICENSE", "PROOF", "THIRD-PARTY")]
         top = os.path.basename(self.tarball)[:-len(".tar.gz")]
@@ -237,8 +238,9 @@ class Packages(Working):
         loaded = re.search(rf"{re.escape(building.SONAME)} => (.*) \(", succeeds("ldd", "a.out", cwd=work))[1]
         self.assertTrue(os.path.samefile(loaded, os.path.join(top, "lib", SHARED)), loaded)
         succeeds(os.path.join(work, "a.out"))
-        archive = os.path.join(top, "lib", "libmp4_box_codec.a")
-        succeeds("cc", "-I", os.path.join(top, "include"), "program.c", archive, "-o", "static", cwd=work)
+        command = 'eval "cc program.c $(pkg-config --cflags --libs mp4_box_codec-static) -o static"'
+        succeeds("sh", "-c", command, cwd=work, env=env)
+        self.assertNotIn(building.SONAME, succeeds("ldd", "static", cwd=work))
         succeeds(os.path.join(work, "static"))
 
     def test_crate_for_rust_of_the_tarball(self):
@@ -251,23 +253,31 @@ class Packages(Working):
         write(os.path.join(work, "Cargo.toml"), '[package]\nname = "it"\nversion = "1.0.0"\nedition = "2021"\n'
               f'[dependencies]\nmp4-box-codec = {{ path = "{crate}" }}\n')
         write(os.path.join(work, "src", "main.rs"), 'fn main() {\n    let file = std::fs::read("plain.mp4").unwrap();\n'
-              '    println!("{}", mp4_box_codec::tree(&file).unwrap().len());\n}\n')
+              '    println!("{}", mp4_box_codec::tree(&file).unwrap().iter().count());\n}\n')
         self.movie(work)
         env = {**os.environ, "PKG_CONFIG_PATH": os.path.join(top, "lib", "pkgconfig")}
         env.pop("MP4_BOX_CODEC_LIB_DIR", None)
         said = succeeds("cargo", "run", "--offline", "--quiet", cwd=work, env=env)
         self.assertEqual(said, f"{source('tests', 'files', 'texts', 'plain.txt').count('@')}\n")
 
+    def test_programs_for_rust_of_the_tarball(self):
+        folder = os.path.join(self.unpacked(), DOCUMENTS, "examples", "rust")
+        crate = re.search(r'path = "(\.\..*)"', text_of(folder, "Cargo.toml"))[1]
+        self.assertIn('name = "mp4-box-codec"\n', text_of(folder, crate, "Cargo.toml"))
+
     def test_debian_package(self):
         tree = tempfile.mkdtemp(dir=self.work)
         succeeds("dpkg-deb", "--raw-extract", self.debian, tree)
         wanted = [*PROGRAMS, "include/mp4_box_codec.h", *self.documents(), "share/lintian/overrides/mp4-box-codec"]
         wanted += [f"lib/x86_64-linux-gnu/{it}" for it in (
-            "libmp4_box_codec.a", "libmp4_box_codec.so", building.SONAME, SHARED, "pkgconfig/mp4_box_codec.pc")]
+            "libmp4_box_codec.a", "libmp4_box_codec.so", building.SONAME, SHARED, *CONFIGS)]
         wanted += [f"{it}.gz" if "/man/" in it else it.replace("site-functions", "vendor-completions")
                    for it in contents.pages()]
         wanted += [f"{DOCUMENTS}/{it}" for it in ("PROOF", "changelog.gz", "copyright")]
         self.assertEqual(files_below(os.path.join(tree, "usr")), sorted(wanted))
+        pages = os.path.join(tree, "usr", "share", "man", "man3")
+        for page in os.listdir(pages):
+            self.assertTrue(os.path.isfile(os.path.join(pages, page)), f"{page} is a link to a page that is not there")
         self.assertEqual(files_below(os.path.join(tree, "DEBIAN")), ["control", "md5sums", "shlibs", "triggers"])
         succeeds("md5sum", "--check", "--strict", "--quiet", "DEBIAN/md5sums", cwd=tree)
         listed = succeeds("dpkg-deb", "--contents", self.debian, env={**os.environ, "TZ": "UTC"})

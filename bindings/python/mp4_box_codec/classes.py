@@ -14,7 +14,7 @@ from .calls import CttsRow, ElstRow, StscRow, SttsRow, TrunRow
 
 @dataclass(frozen=True)
 class Co64(Fields):
-    """The offsets of the chunks, in bytes from the front of the file (`co64`, ISO/IEC 14496-12, 8.7.5)."""
+    """The offsets of the chunks in 64 bits, in bytes from the front of the file (`co64`, ISO/IEC 14496-12, 8.7.5)."""
 
     code = "co64"
     _call = "co64"

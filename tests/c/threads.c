@@ -1,0 +1,69 @@
+/* Calls the library from 8 threads at once: each reads, lists and writes the same bytes again and again, and has to get
+   what one thread gets. The bytes are those of a file on standard input. */
+#include <pthread.h>
+#include <stdio.h>
+#include <stdlib.h>
+#include <string.h>
+#include "mp4_box_codec.h"
+
+#define THREADS 8
+#define ROUNDS 50
+
+static uint8_t file[1 << 16];
+static size_t length;
+
+/* The results of the calls for the file: the samples of its track, the fields of its header, and that header again. */
+struct answer {
+    struct mp4_sample samples[64];
+    uint8_t text[4096], written[256];
+    size_t count, fields, size;
+    uint32_t statuses[5];
+};
+
+static struct answer expected;
+
+static void ask(struct answer *to) {
+    struct mp4_place place;
+    struct mp4_mvhd_box mvhd;
+    memset(to, 0, sizeof *to);
+    to->statuses[0] = mp4_samples(file, length, 1, to->samples, 64, &to->count);
+    to->statuses[1] = mp4_find(file, length, MP4_TEXT("moov/mvhd"), &place);
+    if (to->statuses[1] != MP4_OK)
+        return;
+    to->statuses[2] = mp4_fields(file + place.position, place.length, to->text, sizeof to->text, &to->fields);
+    to->statuses[3] = mp4_mvhd(file + place.position, place.length, &mvhd);
+    to->statuses[4] = mp4_write_mvhd(&mvhd, to->written, sizeof to->written, &to->size);
+}
+
+static void *run(void *wrong) {
+    struct answer *found = malloc(sizeof *found);
+    int round;
+    for (round = 0; round < ROUNDS && found != NULL; round++) {
+        ask(found);
+        if (memcmp(found, &expected, sizeof expected) != 0)
+            *(int *)wrong = 1;
+    }
+    if (found == NULL)
+        *(int *)wrong = 1;
+    free(found);
+    return NULL;
+}
+
+int main(void) {
+    pthread_t threads[THREADS];
+    int wrong[THREADS] = {0}, i, failed = 0;
+    length = fread(file, 1, sizeof file, stdin);
+    ask(&expected);
+    for (i = 0; i < 5; i++)
+        failed |= expected.statuses[i] != MP4_OK;
+    failed |= expected.count == 0 || expected.fields == 0 || expected.size == 0;
+    for (i = 0; i < THREADS; i++)
+        if (pthread_create(&threads[i], NULL, run, &wrong[i]) != 0)
+            return 2;
+    for (i = 0; i < THREADS; i++) {
+        pthread_join(threads[i], NULL);
+        failed |= wrong[i];
+    }
+    printf("threads: %d threads asked %d times, and %s\n", THREADS, ROUNDS, failed ? "differ" : "agree");
+    return failed;
+}
