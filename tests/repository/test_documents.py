@@ -300,8 +300,8 @@ def compare_links(file):
 
 def compare_widths():
     found = [*tree("crates/**/*.rt"), *tree("crates/**/*.antt"), *tree("include/*"), *tree("bench/**/*.rs")]
-    found += [*tree("bindings/**/*.py"), *tree("bindings/**/*.rs"), *tree("examples/**/*.py"), *tree("tests/**/*.py")]
-    found += [*tree("**/*.md")]
+    found += [*tree("bindings/**/*.py"), *tree("bindings/**/*.rs"), *tree("tests/**/*.py"), *tree("**/*.md")]
+    found += [*tree("examples/**/*"), *tree("docs/man/*")]
     found += [it for folder in ("bench", "tests", "tests/*", "tools") for it in tree(f"{folder}/*")
               if it.suffix not in (*TEXTS, ".py")]
     for file in found:
