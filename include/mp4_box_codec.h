@@ -1083,10 +1083,6 @@ uint32_t mp4_write_emsg(const struct mp4_emsg_box *box, const uint8_t *scheme_id
 uint32_t mp4_write_stsd(const struct mp4_stsd_box *box, const size_t *lengths, size_t count, const uint8_t *set_bytes,
                         size_t byte_count, uint8_t *bytes, size_t places, size_t *length);
 
-/*
- * An array without elements may be NULL: calls use the functions below, which replace NULL by a pointer to memory.
- */
-
 #if defined(__GNUC__)
 #define MP4_INLINE static __inline__
 #elif defined(__cplusplus) || (defined(__STDC_VERSION__) && __STDC_VERSION__ >= 199901L)
@@ -1103,6 +1099,27 @@ MP4_INLINE char *mp4_code_text(uint32_t code, char *text) {
     text[4] = 0;
     return text;
 }
+
+/* Returns the number in the first `width` bytes, 0 to 4 of them, the highest byte first: such as the length before a
+   unit in a sample. */
+MP4_INLINE uint32_t mp4_number(const uint8_t *bytes, size_t width) {
+    uint32_t number = 0;
+    size_t i;
+    for (i = 0; i < width; i++)
+        number = number << 8 | bytes[i];
+    return number;
+}
+
+/* Writes a number as four bytes, the highest byte first: such as the length before a unit, or the size of a box. */
+MP4_INLINE void mp4_put_number(uint32_t number, uint8_t *bytes) {
+    int i;
+    for (i = 0; i < 4; i++)
+        bytes[i] = (uint8_t)(number >> (24 - 8 * i));
+}
+
+/*
+ * An array without elements may be NULL: calls use the functions below, which replace NULL by a pointer to memory.
+ */
 
 MP4_INLINE const void *mp4_from(const void *array) {
     static const uint64_t nothing = 0;

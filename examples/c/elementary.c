@@ -13,10 +13,8 @@ static void put(const uint8_t *unit, size_t length) {
 /* Writes the units of a sample. The length of each is a number of `width` bytes before it. */
 static void put_sample(const uint8_t *sample, size_t length, size_t width) {
     while (length > 0) {
-        size_t i, unit = 0;
-        for (i = 0; i < width && i < length; i++)
-            unit = unit * 256 + sample[i];
-        if (i < width || unit > length - width)
+        size_t unit = length < width ? 0 : mp4_number(sample, width);
+        if (length < width || unit > length - width)
             fail("a unit ends after its sample");
         put(sample + width, unit);
         sample += width + unit;

@@ -29,13 +29,6 @@ static inline void *room(size_t count, size_t size) {
     return memory;
 }
 
-/* Writes a number as four bytes. */
-static inline void put_number(uint8_t *bytes, size_t number) {
-    size_t i;
-    for (i = 4; i > 0; i--, number /= 256)
-        bytes[i - 1] = (uint8_t)(number % 256);
-}
-
 /* Returns the bytes of a file, and writes their number to `length`. */
 static inline uint8_t *load(const char *path, size_t *length) {
     FILE *file = fopen(path, "rb");

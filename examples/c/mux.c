@@ -17,7 +17,7 @@ static void put(uint32_t status) {
 
 /* Begins a box that holds what is written next. */
 static void begin(uint32_t code) {
-    put_number(out + length + 4, code);
+    mp4_put_number(code, out + length + 4);
     begun[depth++] = length;
     length += 8;
 }
@@ -25,7 +25,7 @@ static void begin(uint32_t code) {
 /* Ends the last `boxes` boxes that were begun. */
 static void end(size_t boxes) {
     for (; boxes > 0; boxes--, depth--)
-        put_number(out + begun[depth - 1], length - begun[depth - 1]);
+        mp4_put_number((uint32_t)(length - begun[depth - 1]), out + begun[depth - 1]);
 }
 
 /* Returns the position of the first start code at `at` or after it, or the end of the stream. */
@@ -73,7 +73,7 @@ int main(int arguments, char **argument) {
         } else if (n > 1 && (unit[0] % 32 == 1 || unit[0] % 32 == 5) && (pictures > 0 || unit[1] >= 0x80)) {
             if (unit[1] >= 0x80 && ++pictures > 0 && unit[0] % 32 == 5) /* the first slice of a picture */
                 keys[key_count++] = pictures;
-            put_number(out + length, n);
+            mp4_put_number((uint32_t)n, out + length);
             memcpy(out + length + 4, unit, n);
             length += n + 4;
             sizes[pictures - 1] += (uint32_t)n + 4;

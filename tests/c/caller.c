@@ -380,8 +380,25 @@ static void try_large(void) {
     give_back(spans, boxes * sizeof *spans);
 }
 
+/* Converts codes, and numbers in bytes, by the inline functions of the header. */
+static void try_conversions(void) {
+    static const uint8_t bytes[5] = {0x81, 0x82, 0x83, 0x84, 0x85};
+    uint8_t written[6] = {7, 7, 7, 7, 7, 7};
+    char text[6] = "123456";
+    EXPECT(MP4_CODE('m', 'o', 'o', 'v') == 0x6D6F6F76 && MP4_CODE('\xA9', 'n', 'a', 'm') == 0xA96E616D);
+    EXPECT(mp4_code_text(0xA96E616D, text) == text && memcmp(text,
+                                                             "\xA9nam\0"
+                                                             "6",
+                                                             6) == 0);
+    EXPECT(mp4_number(bytes, 0) == 0 && mp4_number(bytes, 1) == 0x81 && mp4_number(bytes, 2) == 0x8182);
+    EXPECT(mp4_number(bytes, 3) == 0x818283 && mp4_number(bytes, 4) == 0x81828384);
+    mp4_put_number(0x91929394, written + 1);
+    EXPECT(memcmp(written, "\x07\x91\x92\x93\x94\x07", 6) == 0);
+}
+
 int main(void) {
     size_t i;
+    try_conversions();
     try_check();
     try_streams();
     for (i = 0; i < sizeof TABLES / sizeof TABLES[0]; i++)
