@@ -5,7 +5,6 @@
 mod compare;
 mod destination;
 mod laws;
-mod mark;
 mod movement;
 mod obstacle;
 mod offsets;
@@ -17,17 +16,14 @@ mod rebuild;
 mod refusal;
 mod request;
 mod rewriting;
-mod source;
-mod words;
 mod write;
 
-use mark::unreadable;
+use mp4_command::{NOT_UTF_8, unreadable};
 use mp4_io::Failure;
 use outcome::Outcome;
 use request::{Request, requested};
 use rewriting::rewrite;
 use std::process::ExitCode;
-use words::NOT_UTF_8;
 
 /// Prints to standard error that a name is not UTF-8, if one of the names of files is not. Returns whether it did.
 fn tell_names(rt: &HostRuntime, from: &str, to: &str) -> bool {

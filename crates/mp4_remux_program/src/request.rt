@@ -1,18 +1,9 @@
-//! The requests that a command line can make. A word that is not UTF-8 is escaped and marked, since `clap` takes only
-//! text.
+//! The requests that a command line can make.
 
-ghost use Rattle.std.specs.Prelude.{◌≡◌, ◌++◌, ◌∷◌, [], ℕ, List, IfOk, IsUtf8, string_bytes};
-
-use crate::mark::MARK;
-use clap::error::ErrorKind;
 use clap::{Arg, ArgMatches, Command, Error};
-use mp4_io::{Failure, is_closed_pipe};
-use mp4_show::{push_escaped, push_escaped_bytes};
+use mp4_command::{print_error, words_of};
+use mp4_io::Failure;
 use std::alloc::{AllocError, Global};
-use std::env::{Env, FillError};
-
-/// The number of bytes that a word has space for at first.
-const CAPACITY: usize = 256;
 
 /// A request to write a file with its `moov` before its media data.
 #[derive(Debug, Drop)]
@@ -89,89 +80,6 @@ fn asked(alloc: Global, matches: &ArgMatches<'_>) -> Result<Request, AllocError>
 fn request_of(alloc: Global, words: &[String]) -> Result<Request, Error> {
     let matches = command(alloc)?.try_get_matches_from(words)?;
     Ok(asked(alloc, &matches)?)
-}
-
-/// Returns the bytes of word `number` of the command line, or `None` if there are fewer.
-fn bytes_of(rt: &HostRuntime, number: usize) -> Result<Option<Vec<u8>>, AllocError> {
-    let mut capacity = CAPACITY;
-    for _ in 0..usize::BITS {
-        let mut bytes = vec![in rt.alloc(); 0; capacity]?;
-        match rt.arg(number, bytes.as_mut_slice()) {
-            Ok(length) => {
-                bytes.truncate(length);
-                return Ok(Some(bytes));
-            }
-            Err(FillError::NotPresent) => return Ok(None),
-            Err(FillError::TooLong) => capacity = capacity.saturating_add(capacity),
-        }
-    }
-    Err(AllocError)
-}
-
-/// Returns the escaped form of a word that is not UTF-8, with `MARK` at its end.
-fn marked(alloc: Global, bytes: &[u8]) -> Result<String, AllocError>
-    ensures { IfOk result (λ text. (front : List ℕ) × (string_bytes text ≡ front ++ 0 ∷ [])) }
-{
-    let mut text = String::new(alloc);
-    push_escaped_bytes(bytes, &mut text)?;
-    text.push(MARK)?;
-    Ok(text)
-}
-
-/// Returns the text of a word. A word that is not UTF-8 is escaped, and ends with `MARK`.
-fn text_of(alloc: Global, bytes: &[u8]) -> Result<String, AllocError>
-    ensures utf8 { IsUtf8 bytes.now → IfOk result (λ text. string_bytes text ≡ bytes.now) }
-    ensures marked { ¬ (IsUtf8 bytes.now)
-        → IfOk result (λ text. (front : List ℕ) × (string_bytes text ≡ front ++ 0 ∷ [])) }
-{
-    match std::str::from_utf8(bytes) {
-        Ok(text) => String::from_str(alloc, text),
-        Err(_) => marked(alloc, bytes),
-    }
-}
-
-/// Returns the words of the command line. The first is the name of the program.
-fn words_of(rt: &HostRuntime) -> Result<Vec<String>, AllocError> {
-    let mut words = Vec::new(rt.alloc());
-    for number in 0..usize::MAX {
-        let Some(bytes) = bytes_of(rt, number)? else {
-            break;
-        };
-        words.push(text_of(rt.alloc(), &bytes)?)?;
-    }
-    Ok(words)
-}
-
-/// Returns the text to print for an error of the command line. Its words are escaped and have no mark.
-fn text_of_error(alloc: Global, error: &Error) -> Result<String, AllocError> {
-    let printed = format!(in alloc; "{error}")?;
-    let mut text = String::new(alloc);
-    for part in printed.split(MARK) {
-        for (number, line) in part.split('\n').enumerate() {
-            if number > 0 {
-                text.push('\n')?;
-            }
-            push_escaped(line, &mut text)?;
-        }
-    }
-    Ok(text)
-}
-
-/// Prints the message of a command line that names no file: a misuse, help or the version. Returns the exit status.
-fn print_error(rt: &HostRuntime, error: &Error) -> Result<u8, Failure> {
-    if error.kind() == ErrorKind::OutOfMemory {
-        return Err(Failure::Memory);
-    }
-    let text = text_of_error(rt.alloc(), error)?;
-    let printed = if error.use_stderr() {
-        eprint!(rt; "{text}")
-    } else {
-        print!(rt; "{text}")
-    };
-    match printed {
-        Err(error) if !is_closed_pipe(&error) => Err(Failure::Write),
-        _ => Ok(error.exit_code() as u8),
-    }
 }
 
 /// Returns the request of the program's command line. If that names no file, prints a message to standard error, or the

@@ -1,24 +1,20 @@
 //! Fields that are read from bytes: those that begin a box that holds boxes, those of sample entries of any code, and
-//! those of a handler and of a reference, with their texts as they are.
+//! those of a reference, with its text as it is.
 
-ghost use Rattle.std.specs.Prelude.{◌≡◌, ◌≤◌, OnOk, drop, length, slice_range};
+ghost use Rattle.std.specs.Prelude.{◌≡◌, ◌≤◌, OnOk, length, slice_range};
 ghost use Rattle.mp4_frame.specs.Bytes.{number};
-ghost use Rattle.mp4_frame.specs.FourCC.{four_cc_of};
-ghost use Rattle.mp4_show.specs.Fronts.{compressor, handler_name, location};
+ghost use Rattle.mp4_show.specs.Fronts.{compressor, location};
 ghost use Rattle.mp4_show.specs.declared.fields.media.TheConstants.{URL};
-ghost use Rattle.mp4_show.specs.declared.fields.tracks.TheConstants.{HDLR};
 ghost use Rattle.mp4_show.specs.declared.fronts.TheConstants.{ENTRY, FULL_HEAD, LIST, TERMINATOR, USERTYPE, VISUAL};
 ghost use Rattle.mp4_shown.specs.Hands.{Hands};
 ghost use Rattle.mp4_shown.specs.Members.{HandsMembers};
-ghost use Rattle.mp4_shown.specs.Runs.{unended};
 
-use crate::fields::{HDLR, HdlrShown, URL, UrlShown};
+use crate::fields::{URL, UrlShown};
 use crate::put_parts::put_parts;
 use crate::shapes::LossyText;
 use mp4_declared::{Full, Last, U8, U16, U24, U32};
 use mp4_frame::{u8_at, u16_at, u24_at, u32_at};
 use mp4_shown::{FLAGS, FieldSink, NamedShape, Result, VERSION, names_of, number};
-use mp4_stream::FourCC;
 
 /// The front of a full box: version and flags (ISO/IEC 14496-12, 4.2).
 type FullShown = (U8, Last<U24>);
@@ -134,66 +130,6 @@ pub fn put_visual<K: FieldSink>(bytes: &[u8], sink: &mut K) -> Result<()>
     let resolutions = (u32_at(bytes, 28), (u32_at(bytes, 32), after));
     let sizes = (u16_at(bytes, 24), (u16_at(bytes, 26), resolutions));
     put_parts::<VisualShown, _, K>(VISUAL, (u16_at(bytes, 6), sizes), sink)
-}
-
-/// Returns `bytes` without a last byte of 0.
-fn unended(bytes: &[u8]) -> &[u8]
-    ensures { result.now ≡ unended bytes.now }
-{
-    if !bytes.is_empty() && bytes[bytes.len() - 1] == 0 {
-        &bytes[..bytes.len() - 1]
-    } else {
-        bytes
-    }
-}
-
-/// Returns the name of a handler, in bytes that go to the end of its box: up to the last byte, which ends it. If the
-/// first byte is the number of those after it, with or without a byte of 0 that ends them, it is QuickTime's count, and
-/// the name is between these two.
-#[tactic(auto, unfolding(crate::specs::Fronts::handler_name))]
-fn handler_name(bytes: &[u8]) -> &[u8]
-    requires { 1 ≤ length bytes.now }
-    ensures { result.now ≡ handler_name bytes.now }
-{
-    let rest = &bytes[1..];
-    let text = unended(rest);
-    let count = bytes[0] as usize;
-    if count == rest.len() || count == text.len() {
-        text
-    } else {
-        &bytes[..bytes.len() - 1]
-    }
-}
-
-/// Returns the name in the content of a handler.
-fn name_of(bytes: &[u8]) -> &[u8]
-    requires { 25 ≤ length bytes.now }
-    ensures { result.now ≡ handler_name (drop 24 bytes.now) }
-{
-    handler_name(&bytes[24..])
-}
-
-/// Hands the fields of a handler to a sink (ISO/IEC 14496-12, 8.4.3; QuickTime File Format, "Handler reference atoms"),
-/// of which these bytes are the content.
-pub fn put_handler<K: FieldSink>(bytes: &[u8], sink: &mut K) -> Result<()>
-    requires { 25 ≤ length bytes.now }
-    ensures fields { OnOk result (Hands K.trace K.after sink.old (⟦<HdlrShown as NamedShape>⟧.shown HDLR
-        (K.wanted sink.old) (
-          number bytes.now 0 1,
-          (
-            number bytes.now 1 3,
-            (four_cc_of (number bytes.now 8 4), (handler_name (drop 24 bytes.now), tt)),
-          ),
-        )) sink.new) }
-    ensures whole { OnOk result (HandsMembers K.trace K.after sink.old sink.new) }
-{
-    let name = name_of(bytes);
-    let handler_type = FourCC::from(u32_at(bytes, 8));
-    let parts = (
-        u8_at(bytes, 0),
-        (u24_at(bytes, 1), (handler_type, (name, ()))),
-    );
-    put_parts::<HdlrShown, _, K>(HDLR, parts, sink)
 }
 
 /// Returns the location in the content of a `url `: the bytes after version and flags, up to the last byte, which ends

@@ -162,15 +162,10 @@ impl BoxFields for MdhdBox {
 }
 
 /// Handler reference (ISO/IEC 14496-12, 8.4.3).
-pub type HdlrShown = Full<256, (Code, Last<LossyText>)>;
+type HdlrShown = Full<256, (Code, Last<LossyText>)>;
 
 /// The names of its fields.
-pub const HDLR: <HdlrShown as NamedShape>::Names = names_of!(
-    VERSION,
-    FLAGS,
-    "handler_type",
-    "name"
-);
+const HDLR: <HdlrShown as NamedShape>::Names = names_of!(VERSION, FLAGS, "handler_type", "name");
 
 impl BoxFields for HdlrBox {
     ghost shown = { λ view b. ⟦<HdlrShown as NamedShape>⟧.shown HDLR view

@@ -1,14 +1,24 @@
-//! The words of the command line. A word that is not UTF-8 is escaped and marked, since `clap` takes only text.
+//! The words of the command line, and what is printed about them. A word that is not UTF-8 is escaped and marked, since
+//! `clap` takes only text.
 
-ghost use Rattle.std.specs.Prelude.{◌≡◌, ◌++◌, ◌∷◌, [], ℕ, List, IfOk, IsUtf8, string_bytes};
+ghost use Rattle.std.specs.Prelude.{◌≡◌, ◌++◌, ◌∷◌, [], ℕ, List, Err, false, IfOk, IsUtf8, string_bytes};
+ghost use Rattle.clap.specs.Values.{kind_of};
+ghost use Rattle.mp4_command.specs.Exit.{status_of};
+ghost use Rattle.mp4_io.specs.Ends.{is_read};
 ghost use Rattle.mp4_show.specs.Escaped.{text_escaped};
 
 use crate::mark::MARK;
 use clap::Error;
+use clap::error::ErrorKind;
+use mp4_io::{Failure, is_closed_pipe};
 use mp4_show::{push_escaped, push_escaped_bytes};
 use std::alloc::{AllocError, Global};
 use std::env::{Env, FillError};
 
+/// The exit status of a misuse, which `clap` uses too.
+pub const MISUSE: u8 = 2;
+/// The message for a name that is not UTF-8.
+pub const NOT_UTF_8: &str = "this name is not UTF-8, and only names that are can be opened";
 /// The number of bytes that a word has space for at first.
 const CAPACITY: usize = 256;
 
@@ -73,7 +83,7 @@ pub fn escaped(alloc: Global, name: &str) -> Result<String, AllocError>
 }
 
 /// Returns the text to print for an error of the command line. Its words are escaped and have no mark.
-pub fn text_of_error(alloc: Global, error: &Error) -> Result<String, AllocError> {
+fn text_of_error(alloc: Global, error: &Error) -> Result<String, AllocError> {
     let printed = format!(in alloc; "{error}")?;
     let mut text = String::new(alloc);
     for part in printed.split(MARK) {
@@ -85,4 +95,35 @@ pub fn text_of_error(alloc: Global, error: &Error) -> Result<String, AllocError>
         }
     }
     Ok(text)
+}
+
+/// Returns the exit status for an error of this `kind`: 0 for the help and the version, else `MISUSE`.
+fn status_of(kind: ErrorKind) -> u8
+    ensures { result ≡ status_of kind }
+{
+    match kind {
+        ErrorKind::DisplayHelp | ErrorKind::DisplayVersion => 0,
+        _ => MISUSE,
+    }
+}
+
+/// Prints the message of a command line that names no file: a misuse, the help or the version. Returns the exit status.
+pub fn print_error(rt: &HostRuntime, error: &Error) -> Result<u8, Failure>
+    ensures status { IfOk result (λ status. status ≡ status_of (kind_of error.now)) }
+    ensures memory { kind_of error.now ≡ ErrorKind.OutOfMemory → result ≡ Err Failure.Memory }
+    ensures not_read { is_read result ≡ false }
+{
+    if error.kind() == ErrorKind::OutOfMemory {
+        return Err(Failure::Memory);
+    }
+    let text = text_of_error(rt.alloc(), error)?;
+    let printed = if error.use_stderr() {
+        eprint!(rt; "{text}")
+    } else {
+        print!(rt; "{text}")
+    };
+    match printed {
+        Err(error) if !is_closed_pipe(&error) => Err(Failure::Write),
+        _ => Ok(status_of(error.kind())),
+    }
 }

@@ -1,6 +1,6 @@
 use Rattle.std.proofs.Common.{IfNone, MatchOption, None, Some, rules}
 use Rattle.std.specs.declared.option.Option.{Option}
-use Rattle.mp4_remux_program.proofs.mark.unreadable.Goals as goal
+use Rattle.mp4_command.proofs.mark.unreadable.Goals as goal
 
 -- The clause for a result without a value.
 of_none : {A : Type 0} (r : Option A) (N : Type 0) (S : A → Type 0) → MatchOption r N S → IfNone r N

@@ -1,11 +1,13 @@
-//! A source that stores its errors.
+//! A source that keeps its errors.
 
-ghost use Rattle.std.specs.Prelude.{◌≡◌, None};
+ghost use Rattle.std.specs.Prelude.{◌≡◌, None, IfOk, IfSome, OnOk, length};
+ghost use Rattle.mp4_command.specs.LastError.{last_error};
+ghost use Rattle.mp4_walk.specs.Source.{IsWindow};
 
 use mp4_walk::Source;
 use std::io;
 
-/// A source that stores the last error of reading.
+/// A source that keeps the error of the last failed call.
 #[derive(Drop)]
 pub struct Kept<S: Source> {
     /// The source.
@@ -27,7 +29,11 @@ impl<S: Source> Kept<S> {
 impl<S: Source> Source for Kept<S> {
     ghost all = { λ s. S.all s.inner };
 
-    fn length(&mut self) -> io::Result<u64> {
+    fn length(&mut self) -> io::Result<u64>
+        ensures value { IfSome (S.all self.old.inner) (λ B. IfOk result (λ n. n ≡ length B)) }
+        ensures keeps { S.all self.new.inner ≡ S.all self.old.inner }
+        ensures error { self.new.error ≡ last_error self.old.error result }
+    {
         match self.inner.length() {
             Ok(length) => Ok(length),
             Err(error) => {
@@ -37,7 +43,11 @@ impl<S: Source> Source for Kept<S> {
         }
     }
 
-    fn read_at(&mut self, at: u64, buffer: &mut [u8]) -> io::Result<()> {
+    fn read_at(&mut self, at: u64, buffer: &mut [u8]) -> io::Result<()>
+        ensures bytes { OnOk result (IfSome (S.all self.old.inner) (λ B. IsWindow B at buffer.new)) }
+        ensures keeps { S.all self.new.inner ≡ S.all self.old.inner }
+        ensures error { self.new.error ≡ last_error self.old.error result }
+    {
         match self.inner.read_at(at, buffer) {
             Ok(()) => Ok(()),
             Err(error) => {
