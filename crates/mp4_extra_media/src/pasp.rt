@@ -45,7 +45,10 @@ impl DeclaredBox for Pasp {
 }
 
 /// The names of the fields.
-const NAMES: <PaspShape as NamedShape>::Names = names_of!(number!("hSpacing"), number!("vSpacing"));
+pub const NAMES: <PaspShape as NamedShape>::Names = names_of!(
+    number!("hSpacing"),
+    number!("vSpacing")
+);
 
 impl HasFields for Pasp {
     ghost shown = { λ view b. ⟦<PaspShape as NamedShape>⟧.shown NAMES view (⟦<Pasp as DeclaredBox>⟧.layout.content b) };

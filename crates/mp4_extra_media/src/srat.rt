@@ -49,7 +49,11 @@ impl DeclaredBox for Srat {
 }
 
 /// The names of the fields.
-const NAMES: <SratShape as NamedShape>::Names = names_of!(VERSION, FLAGS, number!("sampling_rate"));
+pub const NAMES: <SratShape as NamedShape>::Names = names_of!(
+    VERSION,
+    FLAGS,
+    number!("sampling_rate")
+);
 
 impl HasFields for Srat {
     ghost shown = { λ view b. ⟦<SratShape as NamedShape>⟧.shown NAMES view (⟦<Srat as DeclaredBox>⟧.layout.content b) };

@@ -2,14 +2,14 @@
 
 ghost use Rattle.mp4_stream.specs.declared.any_box.AnyBox.TheVariants as any;
 
-mod entries;
-mod fragments;
-mod media;
-mod metadata;
-mod movie;
-mod samples;
-mod sound;
-mod tracks;
+pub mod entries;
+pub mod fragments;
+pub mod media;
+pub mod metadata;
+pub mod movie;
+pub mod samples;
+pub mod sound;
+pub mod tracks;
 
 use crate::box_fields::BoxFields;
 pub(crate) use media::{URL, UrlShown};

@@ -30,7 +30,7 @@ impl BoxEntry<()> for NalUnit {
 }
 
 /// The configuration of an AVC decoder (ISO/IEC 14496-15, 5.3.3.1).
-type AvccShown = (
+pub type AvccShown = (
     U8,
     U8,
     U8,
@@ -39,7 +39,7 @@ type AvccShown = (
 );
 
 /// The names of its fields.
-const AVCC: <AvccShown as NamedShape>::Names = names_of!(
+pub const AVCC: <AvccShown as NamedShape>::Names = names_of!(
     number!("configurationVersion"),
     number!("AVCProfileIndication"),
     number!("profile_compatibility"),
@@ -89,10 +89,10 @@ impl BoxFields for AvcCBox {
 }
 
 /// The configuration of an HEVC decoder (ISO/IEC 14496-15, 8.3.3.1). The codec reads only the version.
-type HvccShown = Last<U8>;
+pub type HvccShown = Last<U8>;
 
 /// The names of its fields.
-const HVCC: <HvccShown as NamedShape>::Names = names_of!(number!("configurationVersion"));
+pub const HVCC: <HvccShown as NamedShape>::Names = names_of!(number!("configurationVersion"));
 
 impl BoxFields for HvcCBox {
     ghost shown = { λ view b. ⟦<HvccShown as NamedShape>⟧.shown HVCC view (b.configuration_version, tt) };
@@ -105,10 +105,10 @@ impl BoxFields for HvcCBox {
 }
 
 /// The configuration of a VP decoder (VP Codec ISO Media File Format Binding, 2.2), up to the subsampling.
-type VpccFront = Full<256, (U8, U8, U8, Last<U8>)>;
+pub type VpccFront = Full<256, (U8, U8, U8, Last<U8>)>;
 
 /// The names of its fields.
-const VPCC: <VpccFront as NamedShape>::Names = names_of!(
+pub const VPCC: <VpccFront as NamedShape>::Names = names_of!(
     VERSION,
     FLAGS,
     number!("profile"),
@@ -118,10 +118,10 @@ const VPCC: <VpccFront as NamedShape>::Names = names_of!(
 );
 
 /// The fields after the subsampling.
-type VpccRest = (FlagBit, U8, U8, U8, Last<U16>);
+pub type VpccRest = (FlagBit, U8, U8, U8, Last<U16>);
 
 /// The names of its fields.
-const VPCC_REST: <VpccRest as NamedShape>::Names = names_of!(
+pub const VPCC_REST: <VpccRest as NamedShape>::Names = names_of!(
     number!("videoFullRangeFlag"),
     number!("colourPrimaries"),
     number!("transferCharacteristics"),
@@ -189,7 +189,7 @@ impl BoxFields for VpccBox {
 }
 
 /// A sample entry of AVC video (ISO/IEC 14496-15, 5.4.2.1).
-type Avc1Shown = (
+pub type Avc1Shown = (
     U16,
     U16,
     U16,
@@ -198,7 +198,7 @@ type Avc1Shown = (
 );
 
 /// The names of its fields.
-const AVC1: <Avc1Shown as NamedShape>::Names = names_of!(
+pub const AVC1: <Avc1Shown as NamedShape>::Names = names_of!(
     number!("data_reference_index"),
     number!("width"),
     number!("height"),
@@ -260,7 +260,7 @@ impl BoxFields for Avc1Box {
 }
 
 /// A sample entry of HEVC video (ISO/IEC 14496-15, 8.4.1.1).
-type Hev1Shown = (
+pub type Hev1Shown = (
     U16,
     U16,
     U16,
@@ -269,7 +269,7 @@ type Hev1Shown = (
 );
 
 /// The names of its fields.
-const HEV1: <Hev1Shown as NamedShape>::Names = names_of!(
+pub const HEV1: <Hev1Shown as NamedShape>::Names = names_of!(
     number!("data_reference_index"),
     number!("width"),
     number!("height"),
@@ -331,10 +331,10 @@ impl BoxFields for Hev1Box {
 }
 
 /// A sample entry of VP9 video (VP Codec ISO Media File Format Binding, 2.1), up to the height.
-type Vp09Front = Full<256, (U16, U16, Array<16>, U16, Last<U16>)>;
+pub type Vp09Front = Full<256, (U16, U16, Array<16>, U16, Last<U16>)>;
 
 /// The names of its fields.
-const VP09: <Vp09Front as NamedShape>::Names = names_of!(
+pub const VP09: <Vp09Front as NamedShape>::Names = names_of!(
     VERSION,
     FLAGS,
     number!("start_code"),
@@ -345,7 +345,7 @@ const VP09: <Vp09Front as NamedShape>::Names = names_of!(
 );
 
 /// The fields after the height.
-type Vp09Rest = (
+pub type Vp09Rest = (
     Resolution,
     Resolution,
     Array<4>,
@@ -354,7 +354,7 @@ type Vp09Rest = (
 );
 
 /// The names of its fields.
-const VP09_REST: <Vp09Rest as NamedShape>::Names = names_of!(
+pub const VP09_REST: <Vp09Rest as NamedShape>::Names = names_of!(
     "horizresolution",
     "vertresolution",
     run!("reserved1", Bytes),
@@ -444,10 +444,10 @@ impl BoxFields for Vp09Box {
 }
 
 /// A colour.
-type ColorShown = (U8, U8, U8, Last<U8>);
+pub type ColorShown = (U8, U8, U8, Last<U8>);
 
 /// The names of its fields.
-const COLOR: <ColorShown as NamedShape>::Names = names_of!(
+pub const COLOR: <ColorShown as NamedShape>::Names = names_of!(
     number!("red"),
     number!("green"),
     number!("blue"),
@@ -468,7 +468,7 @@ impl BoxFields for RgbaColor {
 }
 
 /// A sample entry of timed text (3GPP TS 26.245, 5.16).
-type Tx3gShown = (
+pub type Tx3gShown = (
     U16,
     U32,
     I8,
@@ -477,7 +477,7 @@ type Tx3gShown = (
 );
 
 /// The names of its fields.
-const TX3G: <Tx3gShown as NamedShape>::Names = names_of!(
+pub const TX3G: <Tx3gShown as NamedShape>::Names = names_of!(
     number!("data_reference_index"),
     number!("displayFlags", Flags(8)),
     number!("horizontal-justification"),

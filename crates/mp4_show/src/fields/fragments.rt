@@ -26,10 +26,10 @@ use mp4_shown::{
 use mp4_stream::{MehdBox, MfhdBox, TfdtBox, TfhdBox, TrexBox, TrunBox};
 
 /// Movie extends header (ISO/IEC 14496-12, 8.8.2).
-type MehdShown = Full<256, Last<U64>>;
+pub type MehdShown = Full<256, Last<U64>>;
 
 /// The names of its fields.
-const MEHD: <MehdShown as NamedShape>::Names = names_of!(
+pub const MEHD: <MehdShown as NamedShape>::Names = names_of!(
     VERSION,
     FLAGS,
     number!("fragment_duration")
@@ -49,10 +49,10 @@ impl BoxFields for MehdBox {
 }
 
 /// The defaults of the samples of a track's fragments (ISO/IEC 14496-12, 8.8.3).
-type TrexShown = Full<256, (U32, U32, U32, U32, Last<U32>)>;
+pub type TrexShown = Full<256, (U32, U32, U32, U32, Last<U32>)>;
 
 /// The names of its fields.
-const TREX: <TrexShown as NamedShape>::Names = names_of!(
+pub const TREX: <TrexShown as NamedShape>::Names = names_of!(
     VERSION,
     FLAGS,
     number!("track_ID"),
@@ -105,10 +105,10 @@ impl BoxFields for TrexBox {
 }
 
 /// Movie fragment header (ISO/IEC 14496-12, 8.8.5).
-type MfhdShown = Full<256, Last<U32>>;
+pub type MfhdShown = Full<256, Last<U32>>;
 
 /// The names of its fields.
-const MFHD: <MfhdShown as NamedShape>::Names = names_of!(
+pub const MFHD: <MfhdShown as NamedShape>::Names = names_of!(
     VERSION,
     FLAGS,
     number!("sequence_number")
@@ -128,10 +128,10 @@ impl BoxFields for MfhdBox {
 }
 
 /// The decoding time of a fragment's first sample (ISO/IEC 14496-12, 8.8.12).
-type TfdtShown = Full<256, Last<U64>>;
+pub type TfdtShown = Full<256, Last<U64>>;
 
 /// The names of its fields.
-const TFDT: <TfdtShown as NamedShape>::Names = names_of!(
+pub const TFDT: <TfdtShown as NamedShape>::Names = names_of!(
     VERSION,
     FLAGS,
     number!("baseMediaDecodeTime")
@@ -151,7 +151,7 @@ impl BoxFields for TfdtBox {
 }
 
 /// Track fragment header (ISO/IEC 14496-12, 8.8.7). Fields that it lacks are left out.
-type TfhdShown = Full<
+pub type TfhdShown = Full<
     256,
     (
         U32,
@@ -163,7 +163,7 @@ type TfhdShown = Full<
 >;
 
 /// The names of its fields.
-const TFHD: <TfhdShown as NamedShape>::Names = names_of!(
+pub const TFHD: <TfhdShown as NamedShape>::Names = names_of!(
     VERSION,
     number!("flags", Flags(6), TRACK_FRAGMENT),
     number!("track_ID"),
@@ -295,7 +295,7 @@ impl BoxEntry<u8> for u32 {
 }
 
 /// The lists of a run, one after the other. Those that it lacks are left out.
-type ColumnsShown = (
+pub type ColumnsShown = (
     SomeEntriesIn<(), u32>,
     SomeEntriesIn<(), u32>,
     SomeEntriesIn<FlagColumn, u32>,
@@ -303,7 +303,7 @@ type ColumnsShown = (
 );
 
 /// Their names.
-const COLUMNS: <ColumnsShown as NamedShape>::Names = names_of!(
+pub const COLUMNS: <ColumnsShown as NamedShape>::Names = names_of!(
     "sample_duration",
     "sample_size",
     "sample_flags",
@@ -332,7 +332,7 @@ fn put_columns<K: FieldSink>(b: &TrunBox, view: View, sink: &mut K) -> Result<()
 }
 
 /// A sample of a run. Fields that it lacks are left out.
-type SampleShown = (
+pub type SampleShown = (
     Optional<U32>,
     Optional<U32>,
     Optional<U32>,
@@ -340,7 +340,7 @@ type SampleShown = (
 );
 
 /// The names of its fields.
-const SAMPLE: <SampleShown as NamedShape>::Names = names_of!(
+pub const SAMPLE: <SampleShown as NamedShape>::Names = names_of!(
     number!("sample_duration"),
     number!("sample_size"),
     number!("sample_flags", Flags(8), SAMPLE_FLAGS),
@@ -476,10 +476,10 @@ impl<'a> ShowShape<&'a TrunBox> for RunSamples {
 }
 
 /// A run of samples (ISO/IEC 14496-12, 8.8.8).
-type TrunShown = Full<256, (U32, Optional<I32>, Optional<U32>, Last<RunSamples>)>;
+pub type TrunShown = Full<256, (U32, Optional<I32>, Optional<U32>, Last<RunSamples>)>;
 
 /// The names of its fields.
-const TRUN: <TrunShown as NamedShape>::Names = names_of!(
+pub const TRUN: <TrunShown as NamedShape>::Names = names_of!(
     VERSION,
     number!("flags", Flags(6), TRACK_RUN),
     number!("sample_count"),

@@ -12,10 +12,10 @@ use mp4_shown::{
 use mp4_stream::{DinfBox, DrefBox, SmhdBox, UrlBox, VmhdBox};
 
 /// Video media header (ISO/IEC 14496-12, 12.1.2).
-type VmhdShown = Full<256, (U16, U16, U16, Last<U16>)>;
+pub type VmhdShown = Full<256, (U16, U16, U16, Last<U16>)>;
 
 /// The names of its fields.
-const VMHD: <VmhdShown as NamedShape>::Names = names_of!(
+pub const VMHD: <VmhdShown as NamedShape>::Names = names_of!(
     VERSION,
     FLAGS,
     number!("graphicsmode"),
@@ -41,10 +41,10 @@ impl BoxFields for VmhdBox {
 }
 
 /// Sound media header (ISO/IEC 14496-12, 12.2.2).
-type SmhdShown = Full<256, Last<I16>>;
+pub type SmhdShown = Full<256, Last<I16>>;
 
 /// The names of its fields.
-const SMHD: <SmhdShown as NamedShape>::Names = names_of!(
+pub const SMHD: <SmhdShown as NamedShape>::Names = names_of!(
     VERSION,
     FLAGS,
     number!("balance", Fixed(8))
@@ -83,10 +83,10 @@ impl BoxFields for UrlBox {
 }
 
 /// The references to media data (ISO/IEC 14496-12, 8.7.2). The codec keeps the last `url `.
-type DrefShown = Full<256, Last<Optional<Group<FieldsOf<UrlBox>>>>>;
+pub type DrefShown = Full<256, Last<Optional<Group<FieldsOf<UrlBox>>>>>;
 
 /// The names of its fields.
-const DREF: <DrefShown as NamedShape>::Names = names_of!(VERSION, FLAGS, ("url ", ()));
+pub const DREF: <DrefShown as NamedShape>::Names = names_of!(VERSION, FLAGS, ("url ", ()));
 
 impl BoxFields for DrefBox {
     ghost shown = { λ view b. ⟦<DrefShown as NamedShape>⟧.shown DREF view (b.version, (b.flags, (b.url, tt))) };
@@ -100,10 +100,10 @@ impl BoxFields for DrefBox {
 }
 
 /// The place of media data (ISO/IEC 14496-12, 8.7.1).
-type DinfShown = Group<FieldsOf<DrefBox>>;
+pub type DinfShown = Group<FieldsOf<DrefBox>>;
 
 /// The names of its fields.
-const DINF: <DinfShown as NamedShape>::Names = ("dref", ());
+pub const DINF: <DinfShown as NamedShape>::Names = ("dref", ());
 
 impl BoxFields for DinfBox {
     ghost shown = { λ view b. ⟦<DinfShown as NamedShape>⟧.shown DINF view b.dref };

@@ -37,7 +37,7 @@ fn number_data_type(data_type: &DataType) -> u32
 }
 
 /// Returns the signed number in 1, 2 or 4 bytes.
-fn integer(bytes: &[u8]) -> Option<i64>
+pub fn integer(bytes: &[u8]) -> Option<i64>
     ensures { result ≡ integer bytes.now }
 {
     if bytes.len() == 1 {
@@ -62,7 +62,7 @@ fn put_integer<K: FieldSink>(number: Option<i64>, bytes: &[u8], sink: &mut K) ->
 }
 
 /// A metadata value: the number of its type, and its bytes.
-struct MetadataValue;
+pub struct MetadataValue;
 
 impl NamedShape for MetadataValue {
     type Value = (u32, Entries<u8>);
@@ -99,10 +99,10 @@ impl<'a> ShowShape<(u32, &'a [u8])> for MetadataValue {
 }
 
 /// The value of a metadata item (QuickTime File Format, "Data atom").
-type DataShown = (U32, Last<MetadataValue>);
+pub type DataShown = (U32, Last<MetadataValue>);
 
 /// The names of its fields.
-const DATA: <DataShown as NamedShape>::Names = names_of!(
+pub const DATA: <DataShown as NamedShape>::Names = names_of!(
     number!("data_type", Named, DATA_TYPES),
     ()
 );
@@ -122,7 +122,7 @@ impl BoxFields for DataBox {
 }
 
 /// An event (ISO/IEC 23009-1, 5.10.3.3). The field of the other version is left out.
-type EmsgShown = Full<
+pub type EmsgShown = Full<
     256,
     (
         LossyText,
@@ -134,7 +134,7 @@ type EmsgShown = Full<
 >;
 
 /// The names of its fields.
-const EMSG: <EmsgShown as NamedShape>::Names = names_of!(
+pub const EMSG: <EmsgShown as NamedShape>::Names = names_of!(
     VERSION,
     FLAGS,
     "scheme_id_uri",

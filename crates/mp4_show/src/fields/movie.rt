@@ -12,10 +12,10 @@ use mp4_shown::{
 use mp4_stream::{FtypBox, MvhdBox};
 
 /// File type (ISO/IEC 14496-12, 4.3).
-type FtypShown = (Code, U32, Last<Codes>);
+pub type FtypShown = (Code, U32, Last<Codes>);
 
 /// The names of its fields.
-const FTYP: <FtypShown as NamedShape>::Names = names_of!(
+pub const FTYP: <FtypShown as NamedShape>::Names = names_of!(
     "major_brand",
     number!("minor_version"),
     "compatible_brands"
@@ -35,10 +35,10 @@ impl BoxFields for FtypBox {
 }
 
 /// Movie header (ISO/IEC 14496-12, 8.2.2). The standard has a sign in `rate` and `volume`.
-type MvhdShown = Full<256, (U64, U64, U32, U64, (I32, I16, Transformation, Last<U32>))>;
+pub type MvhdShown = Full<256, (U64, U64, U32, U64, (I32, I16, Transformation, Last<U32>))>;
 
 /// The names of its fields.
-const MVHD: <MvhdShown as NamedShape>::Names = names_of!(
+pub const MVHD: <MvhdShown as NamedShape>::Names = names_of!(
     VERSION,
     FLAGS,
     number!("creation_time", Date),

@@ -17,10 +17,10 @@ use mp4_stream::{
 };
 
 /// The offsets of chunks (ISO/IEC 14496-12, 8.7.5).
-type StcoShown = Full<256, Last<Numbers>>;
+pub type StcoShown = Full<256, Last<Numbers>>;
 
 /// The names of its fields.
-const STCO: <StcoShown as NamedShape>::Names = names_of!(VERSION, FLAGS, "chunk_offset");
+pub const STCO: <StcoShown as NamedShape>::Names = names_of!(VERSION, FLAGS, "chunk_offset");
 
 impl BoxFields for StcoBox {
     ghost shown = { λ view b. ⟦<StcoShown as NamedShape>⟧.shown STCO view (b.version, (b.flags, (b.entries, tt))) };
@@ -34,10 +34,10 @@ impl BoxFields for StcoBox {
 }
 
 /// The offsets of chunks, in 64 bits (ISO/IEC 14496-12, 8.7.5).
-type Co64Shown = Full<256, Last<WideNumbers>>;
+pub type Co64Shown = Full<256, Last<WideNumbers>>;
 
 /// The names of its fields.
-const CO64: <Co64Shown as NamedShape>::Names = names_of!(VERSION, FLAGS, "chunk_offset");
+pub const CO64: <Co64Shown as NamedShape>::Names = names_of!(VERSION, FLAGS, "chunk_offset");
 
 impl BoxFields for Co64Box {
     ghost shown = { λ view b. ⟦<Co64Shown as NamedShape>⟧.shown CO64 view (b.version, (b.flags, (b.entries, tt))) };
@@ -51,10 +51,10 @@ impl BoxFields for Co64Box {
 }
 
 /// The samples with which decoding can begin (ISO/IEC 14496-12, 8.6.2).
-type StssShown = Full<256, Last<Numbers>>;
+pub type StssShown = Full<256, Last<Numbers>>;
 
 /// The names of its fields.
-const STSS: <StssShown as NamedShape>::Names = names_of!(VERSION, FLAGS, "sample_number");
+pub const STSS: <StssShown as NamedShape>::Names = names_of!(VERSION, FLAGS, "sample_number");
 
 impl BoxFields for StssBox {
     ghost shown = { λ view b. ⟦<StssShown as NamedShape>⟧.shown STSS view (b.version, (b.flags, (b.entries, tt))) };
@@ -68,10 +68,10 @@ impl BoxFields for StssBox {
 }
 
 /// The sizes of samples (ISO/IEC 14496-12, 8.7.3.2).
-type StszShown = Full<256, (U32, U32, Last<Numbers>)>;
+pub type StszShown = Full<256, (U32, U32, Last<Numbers>)>;
 
 /// The names of its fields.
-const STSZ: <StszShown as NamedShape>::Names = names_of!(
+pub const STSZ: <StszShown as NamedShape>::Names = names_of!(
     VERSION,
     FLAGS,
     number!("sample_size"),
@@ -94,10 +94,10 @@ impl BoxFields for StszBox {
 }
 
 /// An entry of the decoding times of samples.
-type DeltaShown = (U32, Last<U32>);
+pub type DeltaShown = (U32, Last<U32>);
 
 /// The names of its fields.
-const DELTA: <DeltaShown as NamedShape>::Names = names_of!(
+pub const DELTA: <DeltaShown as NamedShape>::Names = names_of!(
     number!("sample_count"),
     number!("sample_delta")
 );
@@ -119,10 +119,10 @@ impl BoxEntry<()> for SttsEntry {
 }
 
 /// The decoding times of samples (ISO/IEC 14496-12, 8.6.1.2).
-type SttsShown = Full<256, Last<EntriesIn<(), SttsEntry>>>;
+pub type SttsShown = Full<256, Last<EntriesIn<(), SttsEntry>>>;
 
 /// The names of its fields.
-const STTS: <SttsShown as NamedShape>::Names = names_of!(VERSION, FLAGS, "entries");
+pub const STTS: <SttsShown as NamedShape>::Names = names_of!(VERSION, FLAGS, "entries");
 
 impl BoxFields for SttsBox {
     ghost shown = { λ view b. ⟦<SttsShown as NamedShape>⟧.shown STTS view
@@ -139,10 +139,10 @@ impl BoxFields for SttsBox {
 }
 
 /// An entry of the composition times of samples. The codec reads every offset with a sign.
-type OffsetShown = (U32, Last<I32>);
+pub type OffsetShown = (U32, Last<I32>);
 
 /// The names of its fields.
-const OFFSET: <OffsetShown as NamedShape>::Names = names_of!(
+pub const OFFSET: <OffsetShown as NamedShape>::Names = names_of!(
     number!("sample_count"),
     number!("sample_offset")
 );
@@ -164,10 +164,10 @@ impl BoxEntry<()> for CttsEntry {
 }
 
 /// The composition times of samples (ISO/IEC 14496-12, 8.6.1.3).
-type CttsShown = Full<256, Last<EntriesIn<(), CttsEntry>>>;
+pub type CttsShown = Full<256, Last<EntriesIn<(), CttsEntry>>>;
 
 /// The names of its fields.
-const CTTS: <CttsShown as NamedShape>::Names = names_of!(VERSION, FLAGS, "entries");
+pub const CTTS: <CttsShown as NamedShape>::Names = names_of!(VERSION, FLAGS, "entries");
 
 impl BoxFields for CttsBox {
     ghost shown = { λ view b. ⟦<CttsShown as NamedShape>⟧.shown CTTS view
@@ -184,10 +184,10 @@ impl BoxFields for CttsBox {
 }
 
 /// A run of chunks. The number of its first sample isn't in the file.
-type ChunksShown = (U32, U32, U32, Last<U32>);
+pub type ChunksShown = (U32, U32, U32, Last<U32>);
 
 /// The names of its fields.
-const CHUNKS: <ChunksShown as NamedShape>::Names = names_of!(
+pub const CHUNKS: <ChunksShown as NamedShape>::Names = names_of!(
     number!("first_chunk"),
     number!("samples_per_chunk"),
     number!("sample_description_index"),
@@ -213,10 +213,10 @@ impl BoxEntry<()> for StscEntry {
 }
 
 /// The samples of chunks (ISO/IEC 14496-12, 8.7.4).
-type StscShown = Full<256, Last<EntriesIn<(), StscEntry>>>;
+pub type StscShown = Full<256, Last<EntriesIn<(), StscEntry>>>;
 
 /// The names of its fields.
-const STSC: <StscShown as NamedShape>::Names = names_of!(VERSION, FLAGS, "entries");
+pub const STSC: <StscShown as NamedShape>::Names = names_of!(VERSION, FLAGS, "entries");
 
 impl BoxFields for StscBox {
     ghost shown = { λ view b. ⟦<StscShown as NamedShape>⟧.shown STSC view

@@ -14,10 +14,10 @@ use mp4_stream::{
 };
 
 /// The configuration of a decoder of MPEG-4 audio (ISO/IEC 14496-3, 1.6.2.1).
-type SpecificShown = (U8, U8, Optional<U32>, Last<U8>);
+pub type SpecificShown = (U8, U8, Optional<U32>, Last<U8>);
 
 /// The names of its fields.
-const SPECIFIC: <SpecificShown as NamedShape>::Names = names_of!(
+pub const SPECIFIC: <SpecificShown as NamedShape>::Names = names_of!(
     number!("audioObjectType"),
     number!("samplingFrequencyIndex"),
     number!("samplingFrequency"),
@@ -38,7 +38,7 @@ impl BoxFields for DecoderSpecificDescriptor {
 }
 
 /// The configuration of the decoder of a stream (ISO/IEC 14496-1, 7.2.6.6).
-type ConfigShown = (
+pub type ConfigShown = (
     U8,
     U8,
     U8,
@@ -47,7 +47,7 @@ type ConfigShown = (
 );
 
 /// The names of its fields.
-const CONFIG: <ConfigShown as NamedShape>::Names = names_of!(
+pub const CONFIG: <ConfigShown as NamedShape>::Names = names_of!(
     number!("objectTypeIndication"),
     number!("streamType"),
     number!("upStream"),
@@ -102,10 +102,10 @@ impl BoxFields for DecoderConfigDescriptor {
 }
 
 /// The description of a stream (ISO/IEC 14496-1, 7.2.6.5).
-type StreamShown = (U16, Last<Group<FieldsOf<DecoderConfigDescriptor>>>);
+pub type StreamShown = (U16, Last<Group<FieldsOf<DecoderConfigDescriptor>>>);
 
 /// The names of its fields.
-const STREAM: <StreamShown as NamedShape>::Names = names_of!(
+pub const STREAM: <StreamShown as NamedShape>::Names = names_of!(
     number!("ES_ID"),
     ("decConfigDescr", ())
 );
@@ -122,10 +122,10 @@ impl BoxFields for ESDescriptor {
 }
 
 /// The box with the description of a stream of MPEG-4 audio (ISO/IEC 14496-14, 5.6).
-type EsdsShown = Full<256, Last<Group<FieldsOf<ESDescriptor>>>>;
+pub type EsdsShown = Full<256, Last<Group<FieldsOf<ESDescriptor>>>>;
 
 /// The names of its fields.
-const ESDS: <EsdsShown as NamedShape>::Names = names_of!(VERSION, FLAGS, ("ES", ()));
+pub const ESDS: <EsdsShown as NamedShape>::Names = names_of!(VERSION, FLAGS, ("ES", ()));
 
 impl BoxFields for EsdsBox {
     ghost shown = { λ view b. ⟦<EsdsShown as NamedShape>⟧.shown ESDS view (b.version, (b.flags, (b.es_desc, tt))) };
@@ -140,10 +140,10 @@ impl BoxFields for EsdsBox {
 }
 
 /// A sample entry of MPEG-4 audio (ISO/IEC 14496-14, 5.6).
-type Mp4aShown = (U16, U16, U16, U32, Last<Optional<Group<FieldsOf<EsdsBox>>>>);
+pub type Mp4aShown = (U16, U16, U16, U32, Last<Optional<Group<FieldsOf<EsdsBox>>>>);
 
 /// The names of its fields.
-const MP4A: <Mp4aShown as NamedShape>::Names = names_of!(
+pub const MP4A: <Mp4aShown as NamedShape>::Names = names_of!(
     number!("data_reference_index"),
     number!("channelcount"),
     number!("samplesize"),
@@ -167,7 +167,7 @@ impl BoxFields for Mp4aBox {
 }
 
 /// Sample descriptions (ISO/IEC 14496-12, 8.5.2). The codec reads the first.
-type StsdShown = Full<
+pub type StsdShown = Full<
     256,
     (
         Optional<Group<FieldsOf<Avc1Box>>>,
@@ -179,7 +179,7 @@ type StsdShown = Full<
 >;
 
 /// The names of its fields.
-const STSD: <StsdShown as NamedShape>::Names = names_of!(
+pub const STSD: <StsdShown as NamedShape>::Names = names_of!(
     VERSION,
     FLAGS,
     ("avc1", ()),

@@ -19,10 +19,10 @@ use mp4_shown::{
 use mp4_stream::{ElstBox, ElstEntry, HdlrBox, MdhdBox, TkhdBox};
 
 /// The front of a track header (ISO/IEC 14496-12, 8.3.2).
-type TkhdFront = Full<256, (U64, U64, U32, Last<U64>)>;
+pub type TkhdFront = Full<256, (U64, U64, U32, Last<U64>)>;
 
 /// The names of its fields.
-const TKHD: <TkhdFront as NamedShape>::Names = names_of!(
+pub const TKHD: <TkhdFront as NamedShape>::Names = names_of!(
     VERSION,
     number!("flags", Flags(6), TRACK),
     number!("creation_time", Date),
@@ -32,10 +32,10 @@ const TKHD: <TkhdFront as NamedShape>::Names = names_of!(
 );
 
 /// The fields of a track header after its duration. The standard has a sign in the first three.
-type TkhdRest = (I16, I16, I16, Transformation, (U32, Last<U32>));
+pub type TkhdRest = (I16, I16, I16, Transformation, (U32, Last<U32>));
 
 /// The names of its fields.
-const TKHD_REST: <TkhdRest as NamedShape>::Names = names_of!(
+pub const TKHD_REST: <TkhdRest as NamedShape>::Names = names_of!(
     number!("layer"),
     number!("alternate_group"),
     number!("volume", Fixed(8)),
@@ -99,10 +99,10 @@ impl BoxFields for TkhdBox {
 }
 
 /// Media header (ISO/IEC 14496-12, 8.4.2).
-type MdhdShown = Full<256, (U64, U64, U32, U64, Last<Language>)>;
+pub type MdhdShown = Full<256, (U64, U64, U32, U64, Last<Language>)>;
 
 /// The names of its fields.
-const MDHD: <MdhdShown as NamedShape>::Names = names_of!(
+pub const MDHD: <MdhdShown as NamedShape>::Names = names_of!(
     VERSION,
     FLAGS,
     number!("creation_time", Date),
@@ -197,10 +197,10 @@ fn signed_time(version: u8, media_time: u64) -> i64
 }
 
 /// An entry of an edit list. The standard has a sign in both halves of the rate.
-type EditShown = (U64, MediaTime, I16, Last<I16>);
+pub type EditShown = (U64, MediaTime, I16, Last<I16>);
 
 /// The names of its fields.
-const EDIT: <EditShown as NamedShape>::Names = names_of!(
+pub const EDIT: <EditShown as NamedShape>::Names = names_of!(
     number!("segment_duration"),
     "media_time",
     number!("media_rate_integer"),
@@ -253,10 +253,10 @@ impl BoxEntry<u8> for ElstEntry {
 }
 
 /// Edit list (ISO/IEC 14496-12, 8.6.6).
-type ElstShown = Full<256, Last<EntriesIn<u8, ElstEntry>>>;
+pub type ElstShown = Full<256, Last<EntriesIn<u8, ElstEntry>>>;
 
 /// The names of its fields.
-const ELST: <ElstShown as NamedShape>::Names = names_of!(VERSION, FLAGS, "entries");
+pub const ELST: <ElstShown as NamedShape>::Names = names_of!(VERSION, FLAGS, "entries");
 
 impl BoxFields for ElstBox {
     ghost shown = { λ view b. ⟦<ElstShown as NamedShape>⟧.shown ELST view
