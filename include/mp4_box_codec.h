@@ -553,12 +553,15 @@ uint32_t mp4_find(const uint8_t *bytes, size_t length, const uint8_t *path, size
 
 /* Writes the fields of the box at the front of the bytes, which begin with its header, as the text of a JSON object
    (RFC 8259), like `mp4inspect --json`. The text is UTF-8 without a zero after it; `count` is the number of its bytes.
-   The function reads all boxes that have a function below, and av1C, btrt, clap, clli, colr, cslg, dac3, dec3, dfLa,
-   dOps, elng, frma, keys, kind, mdcv, mfro, nmhd, pasp, prft, pssh, saio, saiz, sbgp, schm, sdtp, senc, sgpd, sidx,
-   stpp, styp, stz2, subs, tenc, tfra, tref and wvtt. Also MP4_UNKNOWN_BOX for a box of another type, whether it is
-   whole or not. Fields have the names of the standards. A number may have 64 bits. A code of four characters is a text,
-   with a character for the number of each byte. Bytes are a text of hexadecimal digits. A fixed-point number is a
-   number with a fraction. Texts have U+FFFD for each part that is not UTF-8. */
+   The function reads all boxes that have a function below, and alac, auxC, av1C, btrt, chan, chnl, clap, clli, colr,
+   cslg, dac3, dec3, dfLa, dOps, dvcC, dvvC, elng, enda, fiel, frma, gmin, hmhd, iloc, imir, infe, iods, ipma, irot,
+   ispe, keys, kind, leva, mdcv, mean, mfro, name, nmhd, pasp, pitm, pixi, prft, pssh, saio, saiz, sbgp, schm, sdtp,
+   senc, sgpd, sidx, srat, ssix, sthd, stpp, styp, stz2, subs, tcmi, tenc, text, tfra, tref, vvcC and wvtt. Also
+   MP4_UNKNOWN_BOX for a box of another type, whether it is whole or not. The function sees only the code of a box. So
+   it also reads other boxes as these: an alac in an stsd, a text outside of a gmhd, a mean or a name outside of a ----.
+   Fields have the names of the standards. A number may have 64 bits. A code of four characters is a text, with a
+   character for the number of each byte. Bytes are a text of hexadecimal digits. A fixed-point number is a number with
+   a fraction. Texts have U+FFFD for each part that is not UTF-8. */
 uint32_t mp4_fields(const uint8_t *bytes, size_t length, uint8_t *text, size_t places, size_t *count);
 
 /* A walk over the boxes of a file that isn't in memory. It reports each box and then the boxes inside, if the codec

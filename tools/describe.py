@@ -624,7 +624,7 @@ HEAD = """\
 These are the names under which `mp4inspect --json` and the libraries show the fields of boxes: those of the standards,
 as they spell them. [boxes.json](boxes.json) has them for other programs, with the meanings of numbers, and
 [boxes.schema.json](boxes.schema.json) is a JSON schema. `tools/describe.py` makes all three from the declarations of
-the boxes.
+the boxes of `mp4_extra`. The codec's own boxes are shown under the names of [LAYOUT.md](LAYOUT.md).
 
 A field is present in each box of its type unless the last column says when it is.
 """

@@ -11,7 +11,7 @@ import os
 import stat
 import sys
 
-from mp4_box_codec import CUT, LEAF, NO_HEADER, OUT_OF_MEMORY, SMALL, UNKNOWN_BOX, Mp4Error, calls
+from mp4_box_codec import CUT, LEAF, NO_HEADER, OUT_OF_MEMORY, SMALL, Mp4Error, calls, class_of
 
 # The faults of a box that the walk over a file finds.
 FAULTS = {
@@ -21,8 +21,6 @@ FAULTS = {
 }
 # The most faults that are reported of a file. A hostile file may have millions.
 MOST_FAULTS = 100
-# The bytes of a box that show whether the package reads boxes of its type.
-FRONT = 32
 # The durations that stand for an unknown one: 0 in files with fragments, and the largest of versions 0 and 1.
 UNKNOWN = (0, 2**32 - 1, 2**64 - 1)
 # The boxes that are read into values. The fields of the others are read too, but only for faults.
@@ -33,15 +31,6 @@ VALUES.update(calls.TABLES)
 def seconds_of(duration, timescale):
     """Returns a duration in seconds, or None if it is unknown."""
     return round(duration / timescale, 3) if timescale and duration not in UNKNOWN else None
-
-
-def is_read(front):
-    """Returns whether the package reads boxes of the type of the box with the first bytes `front`."""
-    try:
-        calls.fields(front)
-    except Mp4Error as why:
-        return why.status != UNKNOWN_BOX
-    return True
 
 
 def names_of(box):
@@ -74,7 +63,7 @@ class Audit:
     def value_of(self, box):
         """Returns what the package reads of a box, or None if it reads no boxes of this type, or if the box has a
         fault."""
-        if not is_read(self.read(box.position, min(box.length, FRONT))):
+        if class_of(box.name, box.parent.to_bytes(4, "big").decode("latin-1")) is None:
             return None
         try:
             return VALUES.get(box.name, calls.fields)(self.read(box.position, box.length))
@@ -97,8 +86,7 @@ class Audit:
         in_track = self.tracks and box.path.startswith("moov/trak")
         if in_track and names[-2:-1] == ["stsd"] and box.code:
             self.tracks[-1]["codecs"].append(box.name)
-        # The `mp4a` in QuickTime's `wave` is no sample entry.
-        value = self.value_of(box) if box.what == LEAF and names[-2:] != ["wave", "mp4a"] else None
+        value = self.value_of(box) if box.what == LEAF else None
         if value is not None and box.path == "moov/mvhd":
             self.timescale, self.seconds = value.timescale, seconds_of(value.duration, value.timescale)
         if value is not None and box.path == "moov/mvex/mehd":

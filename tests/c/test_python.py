@@ -23,7 +23,7 @@ import unittest
 
 from tests.built import TOP, codec, library, number
 from tests.files import inspected
-from tests.files.made import be, box, ftyp, full, nested
+from tests.files.made import be, box, ftyp, full, handler, nested
 from tests.files.stored import stored, stored_names
 
 PACKAGE = os.path.join(TOP, "bindings", "python")
@@ -309,6 +309,32 @@ class Files(Python):
             made.movie(made.track(1, b"vide", b"", b"und", [], b"", header=made.tkhd(1, matrix=matrix)))
             for matrix in ((0, 1 << 16, 0, -1 << 16, 0, 0, 0, 0, 1 << 30),
                            (-1 << 16, 0, 0, 0, -1 << 16, 0, 0, 0, 1 << 30))))], [90, 180])
+
+    def test_codes_of_two_boxes(self):
+        """The box around it decides which box has a code: each has its own class, or none."""
+        from tests.files import made
+        m = self.module
+        cookie = full(b"alac", 0, 0, be(4, 4096) + bytes([0, 16, 40, 10, 14, 2]) + be(2, 255) + be(4, 0, 0, 44100))
+        sound = made.sound(b"alac", 0, 2, 16, 44100 << 16, b"", cookie)
+        front = box(b"gmhd", box(b"text", be(4, 1 << 16, 0, 0, 0, 1 << 16, 0, 0, 0, 1 << 30)))
+        item = box(b"----", full(b"mean", 0, 0, b"com") + full(b"name", 0, 0, b"n") + full(b"data", 0, 1, be(4, 0)))
+        meta = full(b"meta", 0, 0, handler(b"mdir", b"") + box(b"ilst", item))
+        tracks = [made.track(1, b"soun", b"", b"und", [sound], b""),
+                  made.track(2, b"text", b"", b"und", [box(b"text", bytes(60))], b"", front=front)]
+        file = m.File(made.movie(*tracks) + nested([b"moov", b"udta"], box(b"name", b"ab") + box(b"mean") + meta))
+        entries = file["moov/trak/mdia/minf/stbl/stsd"], file["moov/trak[1]/mdia/minf/stbl/stsd"]
+        self.assertEqual((entries[0]["alac"].fields.samplerate, file.tracks[0].codec), (44100.0, "alac"))
+        self.assertEqual((entries[0]["alac/alac"].fields.frameLength, entries[0]["alac/alac"].fields.pb), (4096, 40))
+        self.assertEqual(file["moov/trak[1]/mdia/minf/gmhd/text"].fields.w, 1.0)
+        self.assertEqual(self.refused("", lambda: entries[1]["text"].fields).status, m.UNKNOWN_BOX)
+        udta = file["moov[1]/udta"]
+        item = udta["meta/ilst/----"]
+        self.assertEqual((item["mean"].fields.value, item["name"].fields.value), ("com", "n"))
+        for code in ("name", "mean"):
+            self.assertEqual(self.refused("", lambda: udta[code].fields).status, m.UNKNOWN_BOX)
+            self.assertIsNone(m.class_of(code, "udta"))
+        self.assertEqual((m.class_of("mp4a", "stsd"), m.class_of("mp4a", "wave")), (m.Mp4a, None))
+        self.assertEqual(file.faults(), [])
 
     def test_entries_of_any_code(self):
         """A sample entry is written as it was read, and refuses numbers that it can't hold."""

@@ -16,7 +16,8 @@
 - Tables: the eight counted tables and `trun` take their rows by `read_table` or `read_rows`, and these two functions
   take them by one call of `ByteCursor::take_rows`.
 - Descriptions: docs/boxes.json, docs/boxes.schema.json and docs/FIELDS.md are what tools/describe.py makes from the
-  declarations of the boxes. The classes for Python are what tools/python_classes.py makes from the first of them.
+  declarations of the boxes. The classes for Python are what tools/python_classes.py makes from the first of them. The
+  comment of `mp4_fields` in the header names these boxes.
 - Lines: no line of a source or a document has more than 120 columns, except attributes, which `rt fmt` keeps on one
   line.
 
@@ -353,6 +354,14 @@ class Documents(unittest.TestCase):
         for tool in (describe, python_classes):
             for path, text in tool.files().items():
                 self.assertEqual(read(TOP / path), text, f"{path}: run {tool.__name__.replace('.', '/')}.py --write")
+
+    def test_boxes_of_the_header(self):
+        """The comment of mp4_fields names the described boxes that have no function."""
+        header = read(TOP / "include/mp4_box_codec.h")
+        listed = re.search(r"all boxes that have a function below, and ([^.]*)\.", header)[1]
+        codes = [box["code"] for box in describe.boxes()]
+        codes = [it for it in codes if f" mp4_{it.lower()}(" not in header]
+        self.assertEqual(re.split(r",\s+|\s+and\s+", listed), codes)
 
     def test_links(self):
         for file in tree("**/*.md"):

@@ -21,7 +21,7 @@ mp4_box_codec.Mp4Error: moov/mvhd at 8: unexpected end of input
 
 from . import calls
 from ._entries import SoundEntry, VisualEntry
-from ._fields import Fields, Matrix, Part, container, read
+from ._fields import Fields, Matrix, Part, class_of, container, read
 from ._library import __version__ as __version__
 from .classes import *  # noqa: F401,F403 pylint: disable=wildcard-import,unused-wildcard-import
 from .calls import (
@@ -42,15 +42,19 @@ Mp4Error.__module__ = __name__
 __all__ = [
     "Box", "CttsRow", "ElstRow", "Fault", "Fields", "File", "Matrix", "Mp4Error", "Part", "Sample", "Samples",
     "SoundEntry", "StscRow", "SttsRow", "Track", "TrackWriter", "TrunRow", "VisualEntry", "Writer", "calls",
-    "container", "read", "units",
+    "class_of", "container", "read", "units",
 ]
 # The names of `classes`. tools/python_classes.py writes them here too, since type checkers read them here.
 __all__ += [
-    "Av1C", "Avc1", "AvcC", "Btrt", "Clap", "Clli", "Co64", "Colr", "Cslg", "Ctts", "DOps", "Dac3", "Data", "Dec3",
-    "Dec3Substreams", "DfLa", "DfLaMetadataBlocks", "Dinf", "Dref", "Elng", "Elst", "Emsg", "Esds", "Frma", "Ftyp",
-    "Hdlr", "Hev1", "HvcC", "HvcCArrays", "Keys", "KeysEntries", "Kind", "Mdcv", "Mdhd", "Mehd", "Mfhd", "Mfro", "Mp4a",
-    "Mvhd", "Nmhd", "Pasp", "Prft", "Pssh", "Saio", "Saiz", "Sbgp", "SbgpEntries", "Schm", "Sdtp", "SdtpEntries",
-    "Senc", "Sgpd", "SgpdEntries", "Sidx", "SidxReferences", "Smhd", "Stco", "Stpp", "Stsc", "Stsd", "Stss", "Stsz",
-    "Stts", "Styp", "Stz2", "Subs", "SubsEntries", "SubsEntriesSubsamples", "Tenc", "Tfdt", "Tfhd", "Tfra",
-    "TfraEntries", "Tkhd", "Tref", "TrefReferences", "Trex", "Trun", "Tx3g", "Url", "Vmhd", "Vp09", "VpcC", "Wvtt",
+    "Alac", "AuxC", "Av1C", "Avc1", "AvcC", "Btrt", "Chan", "ChanMChannelDescriptions", "Chnl", "Clap", "Clli", "Co64",
+    "Colr", "Cslg", "Ctts", "DOps", "Dac3", "Data", "Dec3", "Dec3Substreams", "DfLa", "DfLaMetadataBlocks", "Dinf",
+    "Dref", "DvcC", "DvvC", "Elng", "Elst", "Emsg", "Enda", "Esds", "Fiel", "Frma", "Ftyp", "Gmin", "Hdlr", "Hev1",
+    "Hmhd", "HvcC", "HvcCArrays", "Iloc", "Imir", "Infe", "Iods", "Ipma", "IpmaEntries", "IpmaEntriesAssociations",
+    "Irot", "Ispe", "Keys", "KeysEntries", "Kind", "Leva", "Mdcv", "Mdhd", "Mean", "Mehd", "Mfhd", "Mfro", "Mp4a",
+    "Mvhd", "Name", "Nmhd", "Pasp", "Pitm", "Pixi", "Prft", "Pssh", "Saio", "Saiz", "Sbgp", "SbgpEntries", "Schm",
+    "Sdtp", "SdtpEntries", "Senc", "Sgpd", "SgpdEntries", "Sidx", "SidxReferences", "Smhd", "Srat", "Ssix",
+    "SsixSubsegments", "SsixSubsegmentsRanges", "Stco", "Sthd", "Stpp", "Stsc", "Stsd", "Stss", "Stsz", "Stts", "Styp",
+    "Stz2", "Subs", "SubsEntries", "SubsEntriesSubsamples", "Tcmi", "Tenc", "Text", "Tfdt", "Tfhd", "Tfra",
+    "TfraEntries", "Tkhd", "Tref", "TrefReferences", "Trex", "Trun", "Tx3g", "Url", "Vmhd", "Vp09", "VpcC", "VvcC",
+    "Wvtt",
 ]

@@ -6,7 +6,7 @@ import json
 import math
 import types
 import typing
-from typing import Any, Callable, ClassVar, Dict, List, NamedTuple, Tuple, Type, TypeVar, Union
+from typing import Any, Callable, ClassVar, Dict, List, NamedTuple, Optional, Tuple, Type, TypeVar, Union
 
 from . import calls
 from .calls import INVALID_DATA, UNKNOWN_BOX, Mp4Error
@@ -373,6 +373,22 @@ CLASSES: Dict[str, Type[Fields]] = {}
 def listed(*made: Type[Fields]) -> None:
     """Adds classes to those that `read` knows."""
     CLASSES.update((it.code, it) for it in made)
+
+
+# Codes that are also those of other boxes: the box around each box of the class, or around each other box.
+_ONLY_IN = {"text": "gmhd", "mean": "----", "name": "----"}
+_NOT_IN = {"alac": "stsd", "mp4a": "wave"}
+
+
+def class_of(code: str, around: str) -> Optional[Type[Fields]]:
+    """Returns the class of the boxes with the code `code` in a box with the code `around`, or None if there is none.
+    The same code may be that of another box elsewhere, such as `alac`, which is also a sample entry.
+
+    >>> class_of("name", "----"), class_of("name", "udta")
+    (<class 'mp4_box_codec.classes.Name'>, None)
+    """
+    is_another = code in _ONLY_IN and around != _ONLY_IN[code] or code in _NOT_IN and around == _NOT_IN[code]
+    return None if is_another else CLASSES.get(code)
 
 
 def read(data: Any) -> Fields:

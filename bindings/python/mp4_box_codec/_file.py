@@ -63,10 +63,13 @@ class Box:
         own are a `VisualEntry` or a `SoundEntry`. For another box without a class this raises an Mp4Error with the
         status UNKNOWN_BOX."""
         entry = _ENTRIES.get(self.handler) if self.parent and self.parent.code == "stsd" else None
-        kind = _fields.CLASSES.get(self.code, entry)
+        kind = self._class() or entry
         if kind is None:
             self._refuse(Mp4Error(UNKNOWN_BOX))
         return self.read(kind)
+
+    def _class(self) -> Optional[Type[_fields.Fields]]:
+        return _fields.class_of(self.code, self.parent.code if self.parent else "")
 
     def read(self, kind: Type[F]) -> F:
         """Returns the fields of the box as an instance of `kind`, which has to be the class of its type."""
@@ -240,7 +243,7 @@ class File:
             if box.fault:
                 found.append(Fault(box.position, box.path, box.fault))
             # The entry in an `stsd` is another box.
-            elif box.code in _fields.CLASSES and box.code != "stsd":
+            elif box._class() and box.code != "stsd":
                 try:
                     calls.fields(box.data)
                 except Mp4Error as why:

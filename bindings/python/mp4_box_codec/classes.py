@@ -600,6 +600,45 @@ class Stsd(Fields):
 
 
 @dataclass(frozen=True)
+class Alac(Fields):
+    """The configuration of an Apple Lossless decoder (`alac`, ALAC, "Magic cookie description")."""
+
+    code = "alac"
+    _bits = {"version": (8,), "flags": (24,), "frameLength": (32,), "compatibleVersion": (8,), "bitDepth": (8,), "pb":
+    (8,), "mb": (8,), "kb": (8,), "numChannels": (8,), "maxRun": (16,), "maxFrameBytes": (32,), "avgBitRate": (32,),
+    "sampleRate": (32,)}
+
+    version: int
+    flags: int
+    frameLength: int
+    compatibleVersion: int
+    bitDepth: int
+    pb: int
+    mb: int
+    kb: int
+    numChannels: int
+    maxRun: int
+    maxFrameBytes: int
+    avgBitRate: int
+    sampleRate: int
+    ALACChannelLayoutInfo: Optional[bytes] = None
+
+
+@dataclass(frozen=True)
+class AuxC(Fields):
+    """The role of an auxiliary image (`auxC`, ISO/IEC 23008-12, 6.5.8)."""
+
+    code = "auxC"
+    _bits = {"version": (8,), "flags": (24,)}
+
+    version: int
+    flags: int
+    aux_type: str
+    aux_type_hex: Optional[bytes] = None
+    aux_subtype: Optional[bytes] = None
+
+
+@dataclass(frozen=True)
 class Av1C(Fields):
     """The configuration of an AV1 decoder (`av1C`, AV1 Codec ISO Media File Format Binding, 2.3)."""
 
@@ -635,6 +674,54 @@ class Btrt(Fields):
     bufferSizeDB: int
     maxBitrate: int
     avgBitrate: int
+
+
+@dataclass(frozen=True)
+class ChanMChannelDescriptions(Part):
+    """An entry of `mChannelDescriptions`."""
+
+    _bits = {"mChannelLabel": (32,), "mChannelFlags": (32,)}
+
+    mChannelLabel: int
+    mChannelFlags: int
+    mCoordinates_0: bytes
+    mCoordinates_1: bytes
+    mCoordinates_2: bytes
+    mChannelLabel_name: Optional[str] = field(default=None, compare=False)
+
+
+@dataclass(frozen=True)
+class Chan(Fields):
+    """The channels of a sound (`chan`, QuickTime File Format, "Audio channel layout atom")."""
+
+    code = "chan"
+    _bits = {"version": (8,), "flags": (24,), "mChannelLayoutTag": (32,), "mChannelBitmap": (32,),
+    "mNumberChannelDescriptions": (32,)}
+
+    version: int
+    flags: int
+    mChannelLayoutTag: int
+    mChannelBitmap: int
+    mChannelDescriptions: List[ChanMChannelDescriptions]
+    mChannelLayoutTag_name: Optional[str] = field(default=None, compare=False)
+    mNumberChannelDescriptions: Optional[int] = field(default=None, compare=False)
+
+
+@dataclass(frozen=True)
+class Chnl(Fields):
+    """The channels of a sound (`chnl`, ISO/IEC 14496-12, 12.2.4)."""
+
+    code = "chnl"
+    _bits = {"version": (8,), "flags": (24,), "stream_structure": (8,), "format_ordering": (4,), "baseChannelCount":
+    (8,)}
+
+    version: int
+    flags: int
+    stream_structure: Optional[int] = None
+    stream_structure_name: Optional[str] = field(default=None, compare=False)
+    format_ordering: Optional[int] = None
+    baseChannelCount: Optional[int] = None
+    data_bytes: Optional[bytes] = None
 
 
 @dataclass(frozen=True)
@@ -831,6 +918,48 @@ class DOps(Fields):
 
 
 @dataclass(frozen=True)
+class DvcC(Fields):
+    """The configuration of Dolby Vision in profiles up to 7 (`dvcC`, Dolby Vision Streams Within the ISO Base Media
+    File Format, "Configuration boxes")."""
+
+    code = "dvcC"
+    _bits = {"dv_version_major": (8,), "dv_version_minor": (8,), "dv_profile": (7,), "dv_level": (6,),
+    "dv_bl_signal_compatibility_id": (4,), "reserved": (28,)}
+
+    dv_version_major: int
+    dv_version_minor: int
+    dv_profile: int
+    dv_level: int
+    rpu_present_flag: bool
+    el_present_flag: bool
+    bl_present_flag: bool
+    dv_bl_signal_compatibility_id: int
+    dv_bl_signal_compatibility_id_name: Optional[str] = field(default=None, compare=False)
+    reserved: Optional[int] = None
+
+
+@dataclass(frozen=True)
+class DvvC(Fields):
+    """The configuration of Dolby Vision in profiles 8 to 10 (`dvvC`, Dolby Vision Streams Within the ISO Base Media
+    File Format, "Configuration boxes")."""
+
+    code = "dvvC"
+    _bits = {"dv_version_major": (8,), "dv_version_minor": (8,), "dv_profile": (7,), "dv_level": (6,),
+    "dv_bl_signal_compatibility_id": (4,), "reserved": (28,)}
+
+    dv_version_major: int
+    dv_version_minor: int
+    dv_profile: int
+    dv_level: int
+    rpu_present_flag: bool
+    el_present_flag: bool
+    bl_present_flag: bool
+    dv_bl_signal_compatibility_id: int
+    dv_bl_signal_compatibility_id_name: Optional[str] = field(default=None, compare=False)
+    reserved: Optional[int] = None
+
+
+@dataclass(frozen=True)
 class Elng(Fields):
     """The language of a track's media (`elng`, ISO/IEC 14496-12, 8.4.6)."""
 
@@ -844,6 +973,30 @@ class Elng(Fields):
 
 
 @dataclass(frozen=True)
+class Enda(Fields):
+    """The order of the bytes of a sound's samples (`enda`, QuickTime File Format, "Endian atom")."""
+
+    code = "enda"
+    _bits = {"littleEndian": (16,)}
+
+    littleEndian: int
+    littleEndian_name: Optional[str] = field(default=None, compare=False)
+
+
+@dataclass(frozen=True)
+class Fiel(Fields):
+    """The fields of a video (`fiel`, QuickTime File Format, "Video sample description extensions")."""
+
+    code = "fiel"
+    _bits = {"fields": (8,), "detail": (8,)}
+
+    fields: int
+    detail: int
+    fields_name: Optional[str] = field(default=None, compare=False)
+    detail_name: Optional[str] = field(default=None, compare=False)
+
+
+@dataclass(frozen=True)
 class Frma(Fields):
     """The format of media before a transformation such as encryption (`frma`, ISO/IEC 14496-12, 8.12.2)."""
 
@@ -851,6 +1004,40 @@ class Frma(Fields):
     _codes = ("data_format",)
 
     data_format: str
+
+
+@dataclass(frozen=True)
+class Gmin(Fields):
+    """The media information of tracks other than video and sound (`gmin`, QuickTime File Format, "Base media info
+    atom")."""
+
+    code = "gmin"
+    _bits = {"version": (8,), "flags": (24,), "graphicsmode": (16,), "opcolor_red": (16,), "opcolor_green": (16,),
+    "opcolor_blue": (16,)}
+
+    version: int
+    flags: int
+    graphicsmode: int
+    opcolor_red: int
+    opcolor_green: int
+    opcolor_blue: int
+    balance: float
+
+
+@dataclass(frozen=True)
+class Hmhd(Fields):
+    """The media header of hints (`hmhd`, ISO/IEC 14496-12, 12.4.2)."""
+
+    code = "hmhd"
+    _bits = {"version": (8,), "flags": (24,), "maxPDUsize": (16,), "avgPDUsize": (16,), "maxbitrate": (32,),
+    "avgbitrate": (32,)}
+
+    version: int
+    flags: int
+    maxPDUsize: int
+    avgPDUsize: int
+    maxbitrate: int
+    avgbitrate: int
 
 
 @dataclass(frozen=True)
@@ -904,6 +1091,127 @@ class HvcC(Fields):
 
 
 @dataclass(frozen=True)
+class Iloc(Fields):
+    """The places of items (`iloc`, ISO/IEC 14496-12, 8.11.3)."""
+
+    code = "iloc"
+    _bits = {"version": (8,), "flags": (24,), "offset_size": (4,), "length_size": (4,), "base_offset_size": (4,),
+    "index_size": (4,), "item_count": (16, 32)}
+
+    version: int
+    flags: int
+    offset_size: int
+    length_size: int
+    base_offset_size: int
+    index_size: int
+    item_count: int
+    data_bytes: Optional[bytes] = None
+
+
+@dataclass(frozen=True)
+class Imir(Fields):
+    """The mirroring of an image (`imir`, ISO/IEC 23008-12, 6.5.12)."""
+
+    code = "imir"
+    _bits = {"reserved": (7,)}
+
+    axis: bool
+    reserved: Optional[int] = None
+
+
+@dataclass(frozen=True)
+class Infe(Fields):
+    """An item (`infe`, ISO/IEC 14496-12, 8.11.6)."""
+
+    code = "infe"
+    _bits = {"version": (8,), "flags": (24,), "item_ID": (16, 32), "item_protection_index": (16,)}
+    _codes = ("item_type",)
+
+    version: int
+    flags: int
+    item_ID: int
+    item_protection_index: int
+    item_name: str
+    item_type: Optional[str] = None
+    item_name_hex: Optional[bytes] = None
+    content_type: Optional[str] = None
+    content_type_hex: Optional[bytes] = None
+    item_uri_type: Optional[str] = None
+    item_uri_type_hex: Optional[bytes] = None
+    data_bytes: Optional[bytes] = None
+
+
+@dataclass(frozen=True)
+class Iods(Fields):
+    """The description of an MPEG-4 presentation (`iods`, ISO/IEC 14496-14, 5.1)."""
+
+    code = "iods"
+    _bits = {"version": (8,), "flags": (24,)}
+
+    version: int
+    flags: int
+    OD: bytes
+
+
+@dataclass(frozen=True)
+class IpmaEntriesAssociations(Part):
+    """An entry of `associations`."""
+
+    _bits = {"property_index": (15,)}
+
+    essential: bool
+    property_index: int
+
+
+@dataclass(frozen=True)
+class IpmaEntries(Part):
+    """An entry of `entries`."""
+
+    _bits = {"item_ID": (16, 32)}
+
+    item_ID: int
+    associations: Optional[List[IpmaEntriesAssociations]] = None
+
+
+@dataclass(frozen=True)
+class Ipma(Fields):
+    """The properties of items (`ipma`, ISO/IEC 23008-12, 9.3.1)."""
+
+    code = "ipma"
+    _bits = {"version": (8,), "flags": (24,), "entry_count": (32,)}
+
+    version: int
+    flags: int
+    entries: List[IpmaEntries]
+    entry_count: Optional[int] = field(default=None, compare=False)
+
+
+@dataclass(frozen=True)
+class Irot(Fields):
+    """The rotation of an image (`irot`, ISO/IEC 23008-12, 6.5.10)."""
+
+    code = "irot"
+    _bits = {"reserved": (6,), "angle": (2,)}
+
+    angle: int
+    reserved: Optional[int] = None
+    angle_name: Optional[str] = field(default=None, compare=False)
+
+
+@dataclass(frozen=True)
+class Ispe(Fields):
+    """The size of an image (`ispe`, ISO/IEC 23008-12, 6.5.3)."""
+
+    code = "ispe"
+    _bits = {"version": (8,), "flags": (24,), "image_width": (32,), "image_height": (32,)}
+
+    version: int
+    flags: int
+    image_width: int
+    image_height: int
+
+
+@dataclass(frozen=True)
 class KeysEntries(Part):
     """An entry of `entries`."""
 
@@ -943,6 +1251,19 @@ class Kind(Fields):
 
 
 @dataclass(frozen=True)
+class Leva(Fields):
+    """The levels into which fragments are divided (`leva`, ISO/IEC 14496-12, 8.8.13)."""
+
+    code = "leva"
+    _bits = {"version": (8,), "flags": (24,), "level_count": (8,)}
+
+    version: int
+    flags: int
+    level_count: int
+    data_bytes: Optional[bytes] = None
+
+
+@dataclass(frozen=True)
 class Mdcv(Fields):
     """The display on which a video was mastered (`mdcv`, ISO/IEC 14496-12, 12.1.7)."""
 
@@ -964,6 +1285,19 @@ class Mdcv(Fields):
 
 
 @dataclass(frozen=True)
+class Mean(Fields):
+    """The domain of the name of a metadata item (`mean`, iTunes, metadata)."""
+
+    code = "mean"
+    _bits = {"version": (8,), "flags": (24,)}
+
+    version: int
+    flags: int
+    value: str
+    value_hex: Optional[bytes] = None
+
+
+@dataclass(frozen=True)
 class Mfro(Fields):
     """The size of the enclosing `mfra` (`mfro`, ISO/IEC 14496-12, 8.8.11)."""
 
@@ -973,6 +1307,19 @@ class Mfro(Fields):
     version: int
     flags: int
     parent_size: int
+
+
+@dataclass(frozen=True)
+class Name(Fields):
+    """The name of a metadata item (`name`, iTunes, metadata)."""
+
+    code = "name"
+    _bits = {"version": (8,), "flags": (24,)}
+
+    version: int
+    flags: int
+    value: str
+    value_hex: Optional[bytes] = None
 
 
 @dataclass(frozen=True)
@@ -995,6 +1342,30 @@ class Pasp(Fields):
 
     hSpacing: int
     vSpacing: int
+
+
+@dataclass(frozen=True)
+class Pitm(Fields):
+    """The item to show first, such as the main image of a file (`pitm`, ISO/IEC 14496-12, 8.11.4)."""
+
+    code = "pitm"
+    _bits = {"version": (8,), "flags": (24,), "item_ID": (16, 32)}
+
+    version: int
+    flags: int
+    item_ID: int
+
+
+@dataclass(frozen=True)
+class Pixi(Fields):
+    """The number and the size of an image's channels (`pixi`, ISO/IEC 23008-12, 6.5.6)."""
+
+    code = "pixi"
+    _bits = {"version": (8,), "flags": (24,), "bits_per_channel": (8,)}
+
+    version: int
+    flags: int
+    bits_per_channel: Optional[List[int]] = None
 
 
 @dataclass(frozen=True)
@@ -1023,6 +1394,7 @@ class Pssh(Fields):
     flags: int
     SystemID: bytes
     Data: bytes
+    SystemID_name: Optional[str] = field(default=None, compare=False)
     KID: Optional[List[bytes]] = None
 
 
@@ -1213,6 +1585,63 @@ class Sidx(Fields):
 
 
 @dataclass(frozen=True)
+class Srat(Fields):
+    """The sample rate of a sound, if the 16 bits of its sample entry can't hold it (`srat`, ISO/IEC 14496-12,
+    12.2.3)."""
+
+    code = "srat"
+    _bits = {"version": (8,), "flags": (24,), "sampling_rate": (32,)}
+
+    version: int
+    flags: int
+    sampling_rate: int
+
+
+@dataclass(frozen=True)
+class SsixSubsegmentsRanges(Part):
+    """An entry of `ranges`."""
+
+    _bits = {"level": (8,), "range_size": (24,)}
+
+    level: int
+    range_size: int
+
+
+@dataclass(frozen=True)
+class SsixSubsegments(Part):
+    """An entry of `subsegments`."""
+
+    _bits = {"range_count": (32,)}
+
+    ranges: List[SsixSubsegmentsRanges]
+    range_count: Optional[int] = field(default=None, compare=False)
+
+
+@dataclass(frozen=True)
+class Ssix(Fields):
+    """The levels of the bytes of subsegments (`ssix`, ISO/IEC 14496-12, 8.16.4)."""
+
+    code = "ssix"
+    _bits = {"version": (8,), "flags": (24,), "subsegment_count": (32,)}
+
+    version: int
+    flags: int
+    subsegments: List[SsixSubsegments]
+    subsegment_count: Optional[int] = field(default=None, compare=False)
+
+
+@dataclass(frozen=True)
+class Sthd(Fields):
+    """The media header of subtitles (`sthd`, ISO/IEC 14496-12, 12.6.2)."""
+
+    code = "sthd"
+    _bits = {"version": (8,), "flags": (24,)}
+
+    version: int
+    flags: int
+
+
+@dataclass(frozen=True)
 class Stpp(Fields):
     """The sample entry of subtitles in XML (`stpp`, ISO/IEC 14496-12, 12.6.3)."""
 
@@ -1296,6 +1725,21 @@ class Subs(Fields):
 
 
 @dataclass(frozen=True)
+class Tcmi(Fields):
+    """The look of a time code (`tcmi`, QuickTime File Format, "Timecode media information atom")."""
+
+    code = "tcmi"
+    _bits = {"version": (8,), "flags": (24,), "text_font": (16,), "text_face": (16,), "text_size": (16,)}
+
+    version: int
+    flags: int
+    text_font: int
+    text_face: int
+    text_size: int
+    data_bytes: Optional[bytes] = None
+
+
+@dataclass(frozen=True)
 class Tenc(Fields):
     """The encryption parameters of a track's samples (`tenc`, ISO/IEC 23001-7, 8.2)."""
 
@@ -1312,6 +1756,23 @@ class Tenc(Fields):
     default_skip_byte_block: Optional[int] = None
     default_constant_IV_size: Optional[int] = field(default=None, compare=False)
     default_constant_IV: Optional[bytes] = None
+
+
+@dataclass(frozen=True)
+class Text(Fields):
+    """The place of text (`text`, QuickTime File Format, "Text media information atom")."""
+
+    code = "text"
+
+    a: float
+    b: float
+    u: float
+    c: float
+    d: float
+    v: float
+    x: float
+    y: float
+    w: float
 
 
 @dataclass(frozen=True)
@@ -1368,6 +1829,21 @@ class Tref(Fields):
 
 
 @dataclass(frozen=True)
+class VvcC(Fields):
+    """The configuration of a VVC decoder (`vvcC`, ISO/IEC 14496-15, 11.2.4.2)."""
+
+    code = "vvcC"
+    _bits = {"version": (8,), "flags": (24,), "reserved": (5,), "LengthSizeMinusOne": (2,)}
+
+    version: int
+    flags: int
+    LengthSizeMinusOne: int
+    ptl_present_flag: bool
+    reserved: Optional[int] = None
+    data_bytes: Optional[bytes] = None
+
+
+@dataclass(frozen=True)
 class Wvtt(Fields):
     """The sample entry of WebVTT (`wvtt`, ISO/IEC 14496-30, 7.5)."""
 
@@ -1379,18 +1855,24 @@ class Wvtt(Fields):
 
 
 listed(
-    Av1C, Avc1, AvcC, Btrt, Clap, Clli, Co64, Colr, Cslg, Ctts, DOps, Dac3, Data, Dec3, DfLa, Dinf, Dref, Elng, Elst,
-    Emsg, Esds, Frma, Ftyp, Hdlr, Hev1, HvcC, Keys, Kind, Mdcv, Mdhd, Mehd, Mfhd, Mfro, Mp4a, Mvhd, Nmhd, Pasp, Prft,
-    Pssh, Saio, Saiz, Sbgp, Schm, Sdtp, Senc, Sgpd, Sidx, Smhd, Stco, Stpp, Stsc, Stsd, Stss, Stsz, Stts, Styp, Stz2,
-    Subs, Tenc, Tfdt, Tfhd, Tfra, Tkhd, Tref, Trex, Trun, Tx3g, Url, Vmhd, Vp09, VpcC, Wvtt,
+    Alac, AuxC, Av1C, Avc1, AvcC, Btrt, Chan, Chnl, Clap, Clli, Co64, Colr, Cslg, Ctts, DOps, Dac3, Data, Dec3, DfLa,
+    Dinf, Dref, DvcC, DvvC, Elng, Elst, Emsg, Enda, Esds, Fiel, Frma, Ftyp, Gmin, Hdlr, Hev1, Hmhd, HvcC, Iloc, Imir,
+    Infe, Iods, Ipma, Irot, Ispe, Keys, Kind, Leva, Mdcv, Mdhd, Mean, Mehd, Mfhd, Mfro, Mp4a, Mvhd, Name, Nmhd, Pasp,
+    Pitm, Pixi, Prft, Pssh, Saio, Saiz, Sbgp, Schm, Sdtp, Senc, Sgpd, Sidx, Smhd, Srat, Ssix, Stco, Sthd, Stpp, Stsc,
+    Stsd, Stss, Stsz, Stts, Styp, Stz2, Subs, Tcmi, Tenc, Text, Tfdt, Tfhd, Tfra, Tkhd, Tref, Trex, Trun, Tx3g, Url,
+    Vmhd, Vp09, VpcC, VvcC, Wvtt,
 )
 
 __all__ = [
-    "Av1C", "Avc1", "AvcC", "Btrt", "Clap", "Clli", "Co64", "Colr", "Cslg", "Ctts", "DOps", "Dac3", "Data", "Dec3",
-    "Dec3Substreams", "DfLa", "DfLaMetadataBlocks", "Dinf", "Dref", "Elng", "Elst", "Emsg", "Esds", "Frma", "Ftyp",
-    "Hdlr", "Hev1", "HvcC", "HvcCArrays", "Keys", "KeysEntries", "Kind", "Mdcv", "Mdhd", "Mehd", "Mfhd", "Mfro", "Mp4a",
-    "Mvhd", "Nmhd", "Pasp", "Prft", "Pssh", "Saio", "Saiz", "Sbgp", "SbgpEntries", "Schm", "Sdtp", "SdtpEntries",
-    "Senc", "Sgpd", "SgpdEntries", "Sidx", "SidxReferences", "Smhd", "Stco", "Stpp", "Stsc", "Stsd", "Stss", "Stsz",
-    "Stts", "Styp", "Stz2", "Subs", "SubsEntries", "SubsEntriesSubsamples", "Tenc", "Tfdt", "Tfhd", "Tfra",
-    "TfraEntries", "Tkhd", "Tref", "TrefReferences", "Trex", "Trun", "Tx3g", "Url", "Vmhd", "Vp09", "VpcC", "Wvtt",
+    "Alac", "AuxC", "Av1C", "Avc1", "AvcC", "Btrt", "Chan", "ChanMChannelDescriptions", "Chnl", "Clap", "Clli", "Co64",
+    "Colr", "Cslg", "Ctts", "DOps", "Dac3", "Data", "Dec3", "Dec3Substreams", "DfLa", "DfLaMetadataBlocks", "Dinf",
+    "Dref", "DvcC", "DvvC", "Elng", "Elst", "Emsg", "Enda", "Esds", "Fiel", "Frma", "Ftyp", "Gmin", "Hdlr", "Hev1",
+    "Hmhd", "HvcC", "HvcCArrays", "Iloc", "Imir", "Infe", "Iods", "Ipma", "IpmaEntries", "IpmaEntriesAssociations",
+    "Irot", "Ispe", "Keys", "KeysEntries", "Kind", "Leva", "Mdcv", "Mdhd", "Mean", "Mehd", "Mfhd", "Mfro", "Mp4a",
+    "Mvhd", "Name", "Nmhd", "Pasp", "Pitm", "Pixi", "Prft", "Pssh", "Saio", "Saiz", "Sbgp", "SbgpEntries", "Schm",
+    "Sdtp", "SdtpEntries", "Senc", "Sgpd", "SgpdEntries", "Sidx", "SidxReferences", "Smhd", "Srat", "Ssix",
+    "SsixSubsegments", "SsixSubsegmentsRanges", "Stco", "Sthd", "Stpp", "Stsc", "Stsd", "Stss", "Stsz", "Stts", "Styp",
+    "Stz2", "Subs", "SubsEntries", "SubsEntriesSubsamples", "Tcmi", "Tenc", "Text", "Tfdt", "Tfhd", "Tfra",
+    "TfraEntries", "Tkhd", "Tref", "TrefReferences", "Trex", "Trun", "Tx3g", "Url", "Vmhd", "Vp09", "VpcC", "VvcC",
+    "Wvtt",
 ]

@@ -2,39 +2,29 @@
 //! faults, or their samples.
 #![tactic(auto)]
 
-mod mark;
 mod outcome;
 mod program;
 mod request;
 mod source;
 mod tree_json;
 mod tree_text;
-mod words;
 
-use clap::Error;
-use clap::error::ErrorKind;
-use mark::unreadable;
+use mp4_command::{Kept, MISUSE, NOT_UTF_8, escaped, print_error, unreadable, words_of};
 use mp4_content::ShownBox;
 use mp4_inspect_samples::{Choice, Form};
-use mp4_io::{Failure, Input, Output, Steady, flush, is_closed_pipe, or_read, read_all, write_all};
+use mp4_io::{Failure, Input, Output, Steady, flush, or_read, read_all, write_all};
 use mp4_show::Look;
 use mp4_walk::Source;
 use outcome::{Outcome, is_silent};
 use program::{Show, inspect};
 use request::{Request, Rows, Task, request_of};
-use source::{Kept, Reading, how_to_read, input_file};
+use source::{Reading, how_to_read, input_file};
 use std::alloc::AllocError;
 use std::env::VarError;
 use std::fs::File;
 use std::io::{BufWriter, IsTerminal, Read, Write};
 use std::process::ExitCode;
 use std::{env, fs, io};
-use words::{escaped, text_of_error, words_of};
-
-/// The exit status of a misuse, which `clap` uses too.
-const MISUSE: u8 = 2;
-/// The message for a name that is not UTF-8.
-const NOT_UTF_8: &str = "this name is not UTF-8, and only names that are can be opened";
 
 /// Returns the width of the terminal in `COLUMNS`, or the largest number if the variable is missing.
 fn width(rt: &HostRuntime) -> usize {
@@ -273,23 +263,6 @@ fn inspect_all<W: Write>(
         write_all(output, b"]\n")?;
     }
     flush(output)
-}
-
-/// Prints the message of a command line that names no file: a misuse, help or the version. Returns the exit status.
-fn print_error(rt: &HostRuntime, error: &Error) -> Result<u8, Failure> {
-    if error.kind() == ErrorKind::OutOfMemory {
-        return Err(Failure::Memory);
-    }
-    let text = text_of_error(rt.alloc(), error)?;
-    let printed = if error.use_stderr() {
-        eprint!(rt; "{text}")
-    } else {
-        print!(rt; "{text}")
-    };
-    match printed {
-        Err(error) if !is_closed_pipe(&error) => Err(Failure::Write),
-        _ => Ok(error.exit_code() as u8),
-    }
 }
 
 /// Shows the requested files. If the pipe of the output is closed, ends silently.

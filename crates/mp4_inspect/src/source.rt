@@ -1,4 +1,4 @@
-//! The sources of the bytes of a file, and the errors of reading them.
+//! The files that are read: by a name, or as the standard input.
 
 ghost use Rattle.std.specs.Prelude.{◌≡◌};
 ghost use Rattle.mp4_inspect.specs.Opened.{reading_of};
@@ -8,50 +8,6 @@ use std::fs::File;
 use std::io::{Seek, SeekFrom};
 use std::os::unix::fs::FileTypeExt;
 use std::{fs, io};
-
-/// A source that stores the last error of reading.
-#[derive(Drop)]
-pub struct Kept<S: Source> {
-    /// The source.
-    inner: S,
-    /// The error of the last failed call, if there was one.
-    pub error: Option<io::Error>,
-}
-
-impl<S: Source> Kept<S> {
-    /// Returns a source over `inner`, of which no call has failed.
-    pub fn new(inner: S) -> Self {
-        Kept { inner, error: None }
-    }
-}
-
-impl<S: Source> Source for Kept<S> {
-    ghost all = { λ s. S.all s.inner };
-
-    fn length(&mut self) -> io::Result<u64> {
-        match self.inner.length() {
-            Ok(length) => Ok(length),
-            Err(error) => {
-                self.error = Some(error);
-                Err(error)
-            }
-        }
-    }
-
-    fn read_at(&mut self, at: u64, buffer: &mut [u8]) -> io::Result<()> {
-        match self.inner.read_at(at, buffer) {
-            Ok(()) => Ok(()),
-            Err(error) => {
-                self.error = Some(error);
-                Err(error)
-            }
-        }
-    }
-
-    fn in_memory(&self) -> Option<&[u8]> {
-        self.inner.in_memory()
-    }
-}
 
 /// A file that is read starting at a position, as if that were its beginning.
 #[derive(Drop)]

@@ -33,8 +33,9 @@ fn data_before(header: &TfhdBox, moof: u64, end: Option<u64>) -> Option<u64>
     if names_base(header) { Some(moof) } else { end }
 }
 
-/// Returns the fragment that `traf` is, if its track has defaults and the end of the data before it is known or unused.
-fn fragment_of(
+/// Returns the fragment that `traf`, in the `moof` at position `moof`, is. Fails if its track has no defaults `trex`,
+/// or if its data begin at the end `end` of the data before it, and that is not known.
+pub fn fragment_of(
     traf: Traf,
     moof: u64,
     trex: Option<&TrexBox>,

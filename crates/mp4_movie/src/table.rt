@@ -40,8 +40,9 @@ fn sizes_of<S: Source>(
     }
 }
 
-/// Returns the chunk offsets of a sample table, if it has any.
-fn chunks_of<S: Source>(
+/// Returns the chunk offsets of a sample table, if it has any: those of `stco`, or those of `co64` if there is no
+/// `stco`. `stbl` begins with the boxes inside the `stbl`.
+pub fn chunks_of<S: Source>(
     alloc: Global,
     walk: &mut BoxWalk<S>,
     stbl: &[TreeBox],

@@ -18,3 +18,5 @@ pub mod Groups
 pub mod Whole
 pub mod Carried
 pub mod Written
+pub mod Splices
+pub mod Edits

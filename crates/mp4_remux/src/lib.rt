@@ -1,6 +1,7 @@
 //! Rewrites the container of a file, and keeps every sample of every track.
 #![tactic(auto)]
 
+pub mod edits;
 mod fragmented;
 mod groups;
 mod keeps;
@@ -9,6 +10,8 @@ mod media;
 pub mod pieces;
 mod refusal;
 mod teller;
+#[cfg(test)]
+mod tests;
 mod track;
 mod track_samples;
 mod write;

@@ -15,4 +15,5 @@ outcome_of (Err (stops.Failed f)) = outcomes.Failed
 abbrev pub status_of : Outcome → ℕ
 status_of outcomes.Written = 0
 status_of outcomes.Refused = 1
+status_of outcomes.Misused = 2
 status_of outcomes.Failed = 3

@@ -4,6 +4,7 @@ ghost use Rattle.std.specs.Prelude.{◌≡◌};
 ghost use Rattle.mp4_remux_program.specs.Outcome.{outcome_of, status_of};
 
 use crate::refusal::Stop;
+use mp4_command::MISUSE;
 
 /// The end of a run of the program that writes a file.
 #[derive(Clone, Copy, Debug, PartialEq, Eq)]
@@ -12,6 +13,8 @@ pub enum Outcome {
     Written,
     /// The file is refused, and nothing is written.
     Refused,
+    /// The names are not those of a file that can be read twice and of one that can be written. Nothing is written.
+    Misused,
     /// A file could not be read or written, or memory was refused.
     Failed,
 }
@@ -28,13 +31,14 @@ impl Outcome {
         }
     }
 
-    /// Returns the exit status: 0, 1 for `Refused` and 3 for `Failed`. `clap` uses 2 for a misuse.
+    /// Returns the exit status: 0, 1 for `Refused`, 3 for `Failed`, and for `Misused` 2, which `clap` uses too.
     pub fn status(self) -> u8
         ensures { result ≡ status_of self }
     {
         match self {
             Outcome::Written => 0,
             Outcome::Refused => 1,
+            Outcome::Misused => MISUSE,
             Outcome::Failed => 3,
         }
     }

@@ -1,8 +1,11 @@
--- A list of numbers with one more number at its end.
-use Rattle.std.proofs.Common.{◌≡◌, ℕ, ◌+◌, ◌-◌, ◌<◌, ◌≤◌, inl, inr, List, [], ◌∷◌, ◌++◌, length, get_or, ap, arith}
+-- A list with one more item at its end.
+use Rattle.std.proofs.Common.{◌≡◌, ℕ, ◌+◌, ◌-◌, ◌<◌, ◌≤◌, inl, inr, List, [], ◌∷◌, ◌++◌, length, get_or, ap, map}
+use Rattle.std.proofs.Common.{sym, arith}
+use Rattle.std.specs.List.{range_with_len}
 use Rattle.std.specs.List.Sorted.{IsNonDecreasing}
 use Rattle.std.proofs.lemmas.Bool.{cases_lt}
 use Rattle.std.proofs.lemmas.List.{get_or_default, get_or_append_left, get_or_push, length_push}
+use Rattle.std.proofs.lemmas.List.FromFn.{map-range_with_len_more}
 use Rattle.std.proofs.lemmas.List.Sorted.{IsNonDecreasingBy-push}
 
 -- A property of each number and of the new one.
@@ -29,3 +32,9 @@ order_push new old x n pushed long order top = rw pushed (IsNonDecreasingBy-push
 
 pub order_none : IsNonDecreasing []
 order_none = λ i j d le lt. absurd (omega arith)
+
+-- A list by a function of the index.
+pub listed_push : {X : Type 0} (f : ℕ → X) (a n m j : ℕ) (new old : List X) (x : X) → new ≡ old ++ x ∷ []
+    → old ≡ map f (range_with_len a n) → x ≡ f j → a + n ≡ j → m ≡ n + 1 → new ≡ map f (range_with_len a m)
+listed_push f a n m j new old x pushed is here at next =
+    rw (pushed, is, here, next) (sym (map-range_with_len_more f a n j at))

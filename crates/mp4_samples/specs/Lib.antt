@@ -1,5 +1,6 @@
 pub mod Runs
 pub mod Chunks
+pub mod ChunkExtents
 pub mod Sizes
 pub mod Samples
 pub mod Disagreements
@@ -13,6 +14,7 @@ pub mod Gives
 pub mod Laws
 pub mod Fragments
 pub mod FragmentPlaces
+pub mod RunExtents
 pub mod FragmentGives
 pub mod FragmentLaws
 pub mod Edits

@@ -1,12 +1,26 @@
 //! The end of the data of a fragment.
 
-ghost use Rattle.std.specs.Prelude.{◌≡◌, ◌+◌, ◌*◌, ◌<◌, ◌≤◌, ◌≤ℤ◌, ◌^◌, ◌⊎◌, length, pos, negsuc, IfSome, IfNone};
+ghost use Rattle.std.specs.Prelude.{◌≡◌, ◌+◌, ◌*◌, ◌<◌, ◌≤◌, ◌≤ℤ◌, ◌^◌, ◌⊎◌, length, pos, negsuc, IfOk, IfErr, IfSome};
+ghost use Rattle.std.specs.Prelude.{IfNone};
+ghost use Rattle.mp4_frame.specs.declared.error.Error.TheVariants.{OutOfMemory};
 ghost use Rattle.mp4_samples.specs.Fragments.{base_of, bytes_before, runs_end, start_after, HasOffset};
 ghost use Rattle.mp4_samples.specs.FragmentPlaces.{IsReached};
+ghost use Rattle.mp4_samples.specs.RunExtents.{extent_at, extents_of};
 
 use crate::fragment::{Fragment, base_of, default_size, size_in};
 use crate::fragment_place::{offset_in_file, run_of};
+use mp4_frame::{Error, Result};
 use mp4_tables::TrunBox;
+use std::alloc::Global;
+
+/// The bytes of a run.
+#[derive(Clone, Copy, Debug, PartialEq, Eq)]
+pub struct RunExtent {
+    /// The offset of the first byte; negative if it is before the file.
+    pub begin: i128,
+    /// The number of bytes of all samples of the run.
+    pub size: u64,
+}
 
 /// The end of the first runs of a fragment.
 #[derive(Clone, Copy)]
@@ -59,7 +73,42 @@ fn with_run(fragment: &Fragment<'_>, reached: Reached) -> Reached
     }
 }
 
+/// Returns the bytes of the run after those of `reached`.
+fn extent_after(fragment: &Fragment<'_>, reached: Reached) -> RunExtent
+    requires at { IsReached fragment.now reached }
+    requires within { reached.run < length fragment.now.runs.now }
+    ensures { result ≡ extent_at fragment.now reached.run }
+{
+    let trun = run_of(fragment, reached.run);
+    RunExtent {
+        begin: begin_after(fragment, reached, trun),
+        size: bytes_of(fragment, trun),
+    }
+}
+
 impl<'a> Fragment<'a> {
+    /// Returns the bytes of each run, in order. It takes two steps for each size that a run lists, and 32 bytes of
+    /// memory for each run. The only error is out of memory, also for 2^32 runs or more.
+    pub fn run_extents(&self, alloc: Global) -> Result<Vec<RunExtent>>
+        ensures items { IfOk result (λ runs. runs.items ≡ extents_of self.now) }
+        ensures err { IfErr result (λ e. e ≡ OutOfMemory) }
+    {
+        let count = self.runs.len();
+        if count > u32::MAX as usize {
+            return Err(Error::OutOfMemory);
+        }
+        let mut extents = Vec::with_capacity(alloc, count)?;
+        let mut reached = Reached {
+            run: 0,
+            end: i128::from(base_of(self)),
+        };
+        'runs: while reached.run < count {
+            extents.push_reserved(extent_after(self, reached));
+            reached = with_run(self, reached);
+        }
+        Ok(extents)
+    }
+
     /// Returns the end of the data of the last run, which is the `data_end` of the next `traf` of the `moof`. It is
     /// `None` if this end is below 0 or above 2^64 - 1, or if there are 2^32 runs or more. It takes one step for each
     /// size that a run lists.

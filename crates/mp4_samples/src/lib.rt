@@ -4,6 +4,7 @@
 mod access;
 mod checks;
 mod chunk_place;
+mod chunks;
 mod disagreement;
 mod edit_checks;
 mod edit_fault;
@@ -29,10 +30,12 @@ mod state;
 mod syncs;
 mod tables;
 
+pub use chunks::ChunkExtent;
 pub use disagreement::Disagreement;
 pub use edit_fault::EditFault;
 pub use edits::Edits;
 pub use fragment::{DEFAULT_BASE_IS_MOOF, Fragment, SAMPLE_IS_NON_SYNC};
+pub use fragment_end::RunExtent;
 pub use fragment_fault::FragmentFault;
 pub use fragment_samples::FragmentSamples;
 pub use presentation::Presentation;

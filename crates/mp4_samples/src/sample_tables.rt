@@ -3,6 +3,7 @@
 ghost use Rattle.std.specs.Prelude.{◌≡◌, ◌<◌, ◌≤◌, ◌↔◌, IfOk, IsOk, IfErr, IfSome, IfNone, IsSome, IsTrue};
 ghost use Rattle.mp4_samples.specs.Runs.{Covers, start_of};
 ghost use Rattle.mp4_samples.specs.Samples.{AreConsistent, IsSample, sample_count};
+ghost use Rattle.mp4_samples.specs.ChunkExtents.{chunks_of};
 ghost use Rattle.mp4_samples.specs.Disagreements.{Disagrees};
 ghost use Rattle.mp4_samples.specs.Syncs.{IsLastSync, HasNoSync, IsLastSyncAt, HasNoSyncAt};
 ghost use Rattle.mp4_frame.specs.declared.error.Error.TheVariants.{OutOfMemory};
@@ -10,6 +11,7 @@ ghost use Rattle.mp4_samples.specs.Index.{most_bytes, IsSampleAt};
 ghost use Rattle.mp4_samples.specs.Gives.{begins};
 
 use crate::checks::check;
+use crate::chunks::{ChunkExtent, chunks_of};
 use crate::disagreement::Disagreement;
 use crate::lookup::{no_hints, number_at, sample_of};
 use crate::marks::marks_of;
@@ -128,6 +130,15 @@ impl<'a> SampleTables<'a> {
     {
         let marks = marks_of(alloc, &self.tables)?;
         Ok(SampleIndex::new(self.tables, marks))
+    }
+
+    /// Returns the chunks in the order of their numbers. It takes one step for each chunk and for each size that is
+    /// listed, and 16 bytes of memory for each chunk. The only error is out of memory.
+    pub fn chunks(&self, alloc: Global) -> mp4_frame::Result<Vec<ChunkExtent>>
+        ensures items { IfOk result (λ chunks. chunks.items ≡ chunks_of self.now) }
+        ensures err { IfErr result (λ e. e ≡ OutOfMemory) }
+    {
+        chunks_of(alloc, &self.tables)
     }
 
     /// Returns an iterator over the samples, from the first to the last.
