@@ -22,6 +22,7 @@ mod traf;
 pub use compact_sizes::sizes_fault;
 pub use defaults::{Defaults, defaults_of};
 pub use error::{BoxError, MovieError};
+pub use found::optional;
 pub use info::TrackInfo;
 pub use level::{BoxLocation, boxes_after, first_in};
 pub use moof::MoofFragments;
