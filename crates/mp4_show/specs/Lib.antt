@@ -6,3 +6,4 @@ pub mod Run
 pub mod Metadata
 pub mod Fronts
 pub mod SoundFront
+pub mod Texts
