@@ -27,3 +27,10 @@ module _ {S T : Type 0} (trace : S → T) (after : T → Event → T) where
     second ∙ ap (λ (t : T). fold after t ys) first ∙ sym (fold-append after (trace old) xs ys),
   )
   more_members (Err _) old mid new first second = tt
+
+  -- these events and then others are their list
+  pub hands_more : {E : Type 0} (r : Result (Unit {0}) E) (xs ys : List Event) (old mid new : S)
+      → Hands trace after old xs mid → OnOk r (Hands trace after mid ys new) → OnOk r (Hands trace after old (xs ++ ys) new)
+  hands_more (Ok _) xs ys old mid new first second =
+      second ∙ ap (λ (t : T). fold after t ys) first ∙ sym (fold-append after (trace old) xs ys)
+  hands_more (Err _) xs ys old mid new first second = tt

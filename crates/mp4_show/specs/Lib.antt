@@ -3,6 +3,10 @@ pub mod Language
 pub mod Lists
 pub mod Edits
 pub mod Run
+pub mod Row
+pub mod BoxRows
+pub mod EntryRows
+pub mod SoundRows
 pub mod Metadata
 pub mod Fronts
 pub mod SoundFront

@@ -16,6 +16,7 @@ mod look;
 mod number_text;
 mod placed;
 mod put_parts;
+mod row;
 mod shapes;
 mod sound_front;
 mod text_sink;

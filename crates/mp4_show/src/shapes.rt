@@ -1,16 +1,14 @@
 //! Shapes of the codec's boxes. They are for showing only.
 
 ghost use Rattle.std.proofs.Common.{refl};
-ghost use Rattle.std.specs.Prelude.{◌≡◌, ◌+◌, ◌*◌, if◌then◌else◌, option_map};
-ghost use Rattle.mp4_shown.specs.Event.{Text, fixed, matrix, media_time, number_list, seen_text, text};
-ghost use Rattle.mp4_shown.specs.Members.{whole_if, whole_number};
-ghost use Rattle.mp4_shown.specs.Numbers.{NumberName as SeenName, seen_number, shown_number};
+ghost use Rattle.std.specs.Prelude.{◌≡◌, if◌then◌else◌, option_map};
+ghost use Rattle.mp4_shown.specs.Event.{Text, media_time, number_list, seen_text, text};
+ghost use Rattle.mp4_shown.specs.Members.{whole_if};
 ghost use Rattle.mp4_shown.specs.Shapes.{shown_as, shown_if};
 
 use crate::box_fields::BoxFields;
-use crate::value::matrix_of;
-use mp4_shown::{FieldSink, NamedShape, NumberName, Result, ShowShape, Value, View, put_number};
-use mp4_stream::{Entries, Matrix};
+use mp4_shown::{FieldSink, NamedShape, Result, ShowShape, Value, View};
+use mp4_stream::Entries;
 
 /// An `S` that may be absent. An absent one isn't shown.
 pub struct Optional<S>(S);
@@ -101,67 +99,10 @@ impl<'a> ShowShape<&'a [u8]> for LossyText {
 }
 
 /// Returns `flag` as 0 or 1.
-fn bit_of(flag: bool) -> u64
+pub(crate) fn bit_of(flag: bool) -> u64
     ensures { result ≡ (if flag then 1 else 0) }
 {
     if flag { 1 } else { 0 }
-}
-
-/// A flag, which is shown as 0 or 1.
-pub struct FlagBit;
-
-impl NamedShape for FlagBit {
-    type Value = bool;
-
-    type Names = NumberName;
-
-    ghost Seen = { SeenName };
-
-    ghost seen = { seen_number };
-
-    ghost shown = { λ name view b. shown_number name (if b then 1 else 0) };
-
-    ghost whole = { λ name view b. whole_number name (if b then 1 else 0) };
-}
-
-impl ShowShape<bool> for FlagBit {
-    ghost content = { λ b. b };
-
-    fn show<K: FieldSink>(name: NumberName, _view: View, value: bool, sink: &mut K) -> Result<()> {
-        put_number(name, bit_of(value), sink)
-    }
-}
-
-/// A resolution of 16.16 bits, as its whole part and its fraction.
-pub struct Resolution;
-
-impl NamedShape for Resolution {
-    type Value = (u16, u16);
-
-    type Names = &'static str;
-
-    ghost Seen = { Text };
-
-    ghost seen = { seen_text };
-
-    ghost shown = { λ name view v. shown_as name.now (fixed (v.0 * 65536 + v.1) 16) };
-
-    ghost whole = { λ name view v s. refl };
-}
-
-impl ShowShape<(u16, u16)> for Resolution {
-    ghost content = { λ v. v };
-
-    fn show<K: FieldSink>(
-        name: &'static str,
-        _view: View,
-        value: (u16, u16),
-        sink: &mut K,
-    ) -> Result<()> {
-        let (whole, part) = value;
-        let raw = u64::from(whole) * 65_536 + u64::from(part);
-        sink.field(name, Value::Fixed(raw, 16))
-    }
 }
 
 /// The time in its media at which an edit begins.
@@ -216,46 +157,5 @@ impl ShowShape<[i16; 4]> for Rectangle {
         sink: &mut K,
     ) -> Result<()> {
         sink.field(name, Value::Numbers(&value))
-    }
-}
-
-/// The transformation of a video.
-pub struct Transformation;
-
-impl NamedShape for Transformation {
-    type Value = Matrix;
-
-    type Names = &'static str;
-
-    ghost Seen = { Text };
-
-    ghost seen = { seen_text };
-
-    ghost shown = { λ name view m. shown_as name.now (matrix (record {
-      a = m.a;
-      b = m.b;
-      u = m.u;
-      c = m.c;
-      d = m.d;
-      v = m.v;
-      x = m.x;
-      y = m.y;
-      w = m.w;
-    })) };
-
-    ghost whole = { λ name view m s. refl };
-}
-
-impl<'a> ShowShape<&'a Matrix> for Transformation {
-    ghost content = { λ m. m.now };
-
-    fn show<K: FieldSink>(
-        name: &'static str,
-        _view: View,
-        value: &'a Matrix,
-        sink: &mut K,
-    ) -> Result<()> {
-        let matrix = matrix_of(value);
-        sink.field(name, Value::Matrix(&matrix))
     }
 }

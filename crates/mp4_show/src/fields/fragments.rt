@@ -1,7 +1,9 @@
 //! The fields of the boxes of movie fragments.
 
-ghost use Rattle.std.specs.Prelude.{◌≡◌, ◌∷◌, [], OnOk, if◌then◌else◌};
+ghost use Rattle.std.specs.Prelude.{◌≡◌, ◌∷◌, ◌++◌, [], OnOk, if◌then◌else◌};
 ghost use Rattle.std.proofs.Common.{refl};
+ghost use Rattle.mp4_show.specs.BoxRows.{mehd_row, mfhd_row, tfdt_row, tfhd_row, trex_row, trun_row};
+ghost use Rattle.mp4_show.specs.Row.{shown_row, whole_row};
 ghost use Rattle.mp4_show.specs.Run.{entry_at, longest, offset_as, offset_at, sample_at, shown_samples};
 ghost use Rattle.mp4_show.specs.Run.{whole_samples};
 ghost use Rattle.mp4_show.specs.declared.fields.fragments.TheConstants.{COLUMNS, MEHD, MFHD, SAMPLE, TFDT, TFHD};
@@ -10,160 +12,108 @@ ghost use Rattle.mp4_show.specs.declared.flag_names.TheConstants.{SAMPLE as MEAN
 ghost use Rattle.mp4_shown.specs.Event.{Text, flags, item, number as one_number, seen_text, shown_of};
 ghost use Rattle.mp4_shown.specs.Hands.{Hands};
 ghost use Rattle.mp4_shown.specs.Lists.{entry_of};
-ghost use Rattle.mp4_shown.specs.Members.{members_if, whole_entry};
+ghost use Rattle.mp4_shown.specs.Members.{members_append, members_if, whole_entry};
 ghost use Rattle.mp4_shown.specs.Shapes.{shown_as};
 
 use crate::box_fields::BoxFields;
 use crate::entries_in::{BoxEntry, SomeEntriesIn};
 use crate::flag_names::{SAMPLE as SAMPLE_FLAGS, TRACK_FRAGMENT, TRACK_RUN};
 use crate::placed::{PlacedEntries, put_placed};
+use crate::row::{Part, put_row};
 use crate::shapes::Optional;
-use mp4_declared::{Full, I32, Last, U32, U64, parts_of};
+use mp4_declared::{Last, U32};
 use mp4_shown::{
-    FLAGS, FieldSink, NamedShape, Result, ShowShape, VERSION, Value, View, names_of, number,
-    show_shape,
+    FLAGS, FieldSink, NamedShape, NumberName, Result, ShowShape, VERSION, Value, View, names_of,
+    number, show_shape,
 };
 use mp4_stream::{MehdBox, MfhdBox, TfdtBox, TfhdBox, TrexBox, TrunBox};
 
-/// Movie extends header (ISO/IEC 14496-12, 8.8.2).
-type MehdShown = Full<256, Last<U64>>;
-
-/// The names of its fields.
-const MEHD: <MehdShown as NamedShape>::Names = names_of!(
-    VERSION,
-    FLAGS,
-    number!("fragment_duration")
-);
+/// The fields of a movie extends header (ISO/IEC 14496-12, 8.8.2).
+const MEHD: &[NumberName] = &[VERSION, FLAGS, number!("fragment_duration")];
 
 impl BoxFields for MehdBox {
-    ghost shown = { λ view b. ⟦<MehdShown as NamedShape>⟧.shown MEHD view
-        (b.version, (b.flags, (b.fragment_duration, tt))) };
+    ghost shown = { λ view b. shown_row MEHD.now (mehd_row b) };
 
-    ghost whole = { λ view b. ⟦<MehdShown as NamedShape>⟧.whole MEHD view
-        (b.version, (b.flags, (b.fragment_duration, tt))) };
+    ghost whole = { λ view b. whole_row MEHD.now (mehd_row b) };
 
-    fn show<K: FieldSink>(&self, view: View, sink: &mut K) -> Result<()> {
-        let parts = parts_of!(self => version, flags, fragment_duration);
-        show_shape::<MehdShown, _, K>(MEHD, view, parts, sink)
+    fn show<K: FieldSink>(&self, _view: View, sink: &mut K) -> Result<()> {
+        let parts = [
+            Part::U8(self.version),
+            Part::U32(self.flags),
+            Part::U64(self.fragment_duration),
+        ];
+        put_row(MEHD, &parts, sink)
     }
 }
 
 /// The defaults of the samples of a track's fragments (ISO/IEC 14496-12, 8.8.3).
-type TrexShown = Full<256, (U32, U32, U32, U32, Last<U32>)>;
-
-/// The names of its fields.
-const TREX: <TrexShown as NamedShape>::Names = names_of!(
+const TREX: &[NumberName] = &[
     VERSION,
     FLAGS,
     number!("track_ID"),
     number!("default_sample_description_index"),
     number!("default_sample_duration"),
     number!("default_sample_size"),
-    number!("default_sample_flags", Flags(8), SAMPLE_FLAGS)
-);
+    number!("default_sample_flags", Flags(8), SAMPLE_FLAGS),
+];
 
 impl BoxFields for TrexBox {
-    ghost shown = { λ view b. ⟦<TrexShown as NamedShape>⟧.shown TREX view (
-      b.version,
-      (
-        b.flags,
-        (
-          b.track_id,
-          (
-            b.default_sample_description_index,
-            (
-              b.default_sample_duration,
-              (b.default_sample_size, (b.default_sample_flags, tt)),
-            ),
-          ),
-        ),
-      ),
-    ) };
+    ghost shown = { λ view b. shown_row TREX.now (trex_row b) };
 
-    ghost whole = { λ view b. ⟦<TrexShown as NamedShape>⟧.whole TREX view (
-      b.version,
-      (
-        b.flags,
-        (
-          b.track_id,
-          (
-            b.default_sample_description_index,
-            (
-              b.default_sample_duration,
-              (b.default_sample_size, (b.default_sample_flags, tt)),
-            ),
-          ),
-        ),
-      ),
-    ) };
+    ghost whole = { λ view b. whole_row TREX.now (trex_row b) };
 
-    fn show<K: FieldSink>(&self, view: View, sink: &mut K) -> Result<()> {
-        let parts = parts_of!(self => version, flags, track_id, default_sample_description_index,
-            default_sample_duration, default_sample_size, default_sample_flags);
-        show_shape::<TrexShown, _, K>(TREX, view, parts, sink)
+    fn show<K: FieldSink>(&self, _view: View, sink: &mut K) -> Result<()> {
+        let parts = [
+            Part::U8(self.version),
+            Part::U32(self.flags),
+            Part::U32(self.track_id),
+            Part::U32(self.default_sample_description_index),
+            Part::U32(self.default_sample_duration),
+            Part::U32(self.default_sample_size),
+            Part::U32(self.default_sample_flags),
+        ];
+        put_row(TREX, &parts, sink)
     }
 }
 
-/// Movie fragment header (ISO/IEC 14496-12, 8.8.5).
-type MfhdShown = Full<256, Last<U32>>;
-
-/// The names of its fields.
-const MFHD: <MfhdShown as NamedShape>::Names = names_of!(
-    VERSION,
-    FLAGS,
-    number!("sequence_number")
-);
+/// The fields of a movie fragment header (ISO/IEC 14496-12, 8.8.5).
+const MFHD: &[NumberName] = &[VERSION, FLAGS, number!("sequence_number")];
 
 impl BoxFields for MfhdBox {
-    ghost shown = { λ view b. ⟦<MfhdShown as NamedShape>⟧.shown MFHD view
-        (b.version, (b.flags, (b.sequence_number, tt))) };
+    ghost shown = { λ view b. shown_row MFHD.now (mfhd_row b) };
 
-    ghost whole = { λ view b. ⟦<MfhdShown as NamedShape>⟧.whole MFHD view
-        (b.version, (b.flags, (b.sequence_number, tt))) };
+    ghost whole = { λ view b. whole_row MFHD.now (mfhd_row b) };
 
-    fn show<K: FieldSink>(&self, view: View, sink: &mut K) -> Result<()> {
-        let parts = parts_of!(self => version, flags, sequence_number);
-        show_shape::<MfhdShown, _, K>(MFHD, view, parts, sink)
+    fn show<K: FieldSink>(&self, _view: View, sink: &mut K) -> Result<()> {
+        let parts = [
+            Part::U8(self.version),
+            Part::U32(self.flags),
+            Part::U32(self.sequence_number),
+        ];
+        put_row(MFHD, &parts, sink)
     }
 }
 
 /// The decoding time of a fragment's first sample (ISO/IEC 14496-12, 8.8.12).
-type TfdtShown = Full<256, Last<U64>>;
-
-/// The names of its fields.
-const TFDT: <TfdtShown as NamedShape>::Names = names_of!(
-    VERSION,
-    FLAGS,
-    number!("baseMediaDecodeTime")
-);
+const TFDT: &[NumberName] = &[VERSION, FLAGS, number!("baseMediaDecodeTime")];
 
 impl BoxFields for TfdtBox {
-    ghost shown = { λ view b. ⟦<TfdtShown as NamedShape>⟧.shown TFDT view
-        (b.version, (b.flags, (b.base_media_decode_time, tt))) };
+    ghost shown = { λ view b. shown_row TFDT.now (tfdt_row b) };
 
-    ghost whole = { λ view b. ⟦<TfdtShown as NamedShape>⟧.whole TFDT view
-        (b.version, (b.flags, (b.base_media_decode_time, tt))) };
+    ghost whole = { λ view b. whole_row TFDT.now (tfdt_row b) };
 
-    fn show<K: FieldSink>(&self, view: View, sink: &mut K) -> Result<()> {
-        let parts = parts_of!(self => version, flags, base_media_decode_time);
-        show_shape::<TfdtShown, _, K>(TFDT, view, parts, sink)
+    fn show<K: FieldSink>(&self, _view: View, sink: &mut K) -> Result<()> {
+        let parts = [
+            Part::U8(self.version),
+            Part::U32(self.flags),
+            Part::U64(self.base_media_decode_time),
+        ];
+        put_row(TFDT, &parts, sink)
     }
 }
 
-/// Track fragment header (ISO/IEC 14496-12, 8.8.7). Fields that it lacks are left out.
-type TfhdShown = Full<
-    256,
-    (
-        U32,
-        Optional<U64>,
-        Optional<U32>,
-        Optional<U32>,
-        (Optional<U32>, Last<Optional<U32>>),
-    ),
->;
-
-/// The names of its fields.
-const TFHD: <TfhdShown as NamedShape>::Names = names_of!(
+/// The fields of a track fragment header (ISO/IEC 14496-12, 8.8.7). Fields that it lacks are left out.
+const TFHD: &[NumberName] = &[
     VERSION,
     number!("flags", Flags(6), TRACK_FRAGMENT),
     number!("track_ID"),
@@ -171,49 +121,26 @@ const TFHD: <TfhdShown as NamedShape>::Names = names_of!(
     number!("sample_description_index"),
     number!("default_sample_duration"),
     number!("default_sample_size"),
-    number!("default_sample_flags", Flags(8), SAMPLE_FLAGS)
-);
+    number!("default_sample_flags", Flags(8), SAMPLE_FLAGS),
+];
 
 impl BoxFields for TfhdBox {
-    ghost shown = { λ view b. ⟦<TfhdShown as NamedShape>⟧.shown TFHD view (
-      b.version,
-      (
-        b.flags,
-        (
-          b.track_id,
-          (
-            b.base_data_offset,
-            (
-              b.sample_description_index,
-              (b.default_sample_duration, (b.default_sample_size, (b.default_sample_flags, tt))),
-            ),
-          ),
-        ),
-      ),
-    ) };
+    ghost shown = { λ view b. shown_row TFHD.now (tfhd_row b) };
 
-    ghost whole = { λ view b. ⟦<TfhdShown as NamedShape>⟧.whole TFHD view (
-      b.version,
-      (
-        b.flags,
-        (
-          b.track_id,
-          (
-            b.base_data_offset,
-            (
-              b.sample_description_index,
-              (b.default_sample_duration, (b.default_sample_size, (b.default_sample_flags, tt))),
-            ),
-          ),
-        ),
-      ),
-    ) };
+    ghost whole = { λ view b. whole_row TFHD.now (tfhd_row b) };
 
-    fn show<K: FieldSink>(&self, view: View, sink: &mut K) -> Result<()> {
-        let parts =
-            parts_of!(self => version, flags, track_id, base_data_offset, sample_description_index,
-            default_sample_duration, default_sample_size, default_sample_flags);
-        show_shape::<TfhdShown, _, K>(TFHD, view, parts, sink)
+    fn show<K: FieldSink>(&self, _view: View, sink: &mut K) -> Result<()> {
+        let parts = [
+            Part::U8(self.version),
+            Part::U32(self.flags),
+            Part::U32(self.track_id),
+            Part::SomeU64(self.base_data_offset),
+            Part::SomeU32(self.sample_description_index),
+            Part::SomeU32(self.default_sample_duration),
+            Part::SomeU32(self.default_sample_size),
+            Part::SomeU32(self.default_sample_flags),
+        ];
+        put_row(TFHD, &parts, sink)
     }
 }
 
@@ -475,30 +402,31 @@ impl<'a> ShowShape<&'a TrunBox> for RunSamples {
     }
 }
 
-/// A run of samples (ISO/IEC 14496-12, 8.8.8).
-type TrunShown = Full<256, (U32, Optional<I32>, Optional<U32>, Last<RunSamples>)>;
-
-/// The names of its fields.
-const TRUN: <TrunShown as NamedShape>::Names = names_of!(
+/// The fields of a run before its samples (ISO/IEC 14496-12, 8.8.8).
+const TRUN: &[NumberName] = &[
     VERSION,
     number!("flags", Flags(6), TRACK_RUN),
     number!("sample_count"),
     number!("data_offset"),
     number!("first_sample_flags", Flags(8), SAMPLE_FLAGS),
-    ()
-);
+];
 
 impl BoxFields for TrunBox {
-    ghost shown = { λ view b. ⟦<TrunShown as NamedShape>⟧.shown TRUN view
-        (b.version, (b.flags, (b.sample_count, (b.data_offset, (b.first_sample_flags, (b, tt)))))) };
+    ghost shown = { λ view b. shown_row TRUN.now (trun_row b) ++ ⟦<RunSamples as NamedShape>⟧.shown tt view b };
 
-    ghost whole = { λ view b. ⟦<TrunShown as NamedShape>⟧.whole TRUN view
-        (b.version, (b.flags, (b.sample_count, (b.data_offset, (b.first_sample_flags, (b, tt)))))) };
+    ghost whole = { λ view b. members_append (shown_row TRUN.now (trun_row b))
+        (⟦<RunSamples as NamedShape>⟧.shown tt view b) (whole_row TRUN.now (trun_row b))
+        (⟦<RunSamples as NamedShape>⟧.whole tt view b) };
 
     fn show<K: FieldSink>(&self, view: View, sink: &mut K) -> Result<()> {
-        let samples = self;
-        let parts =
-            parts_of!(self => version, flags, sample_count, data_offset, first_sample_flags, = samples);
-        show_shape::<TrunShown, _, K>(TRUN, view, parts, sink)
+        let parts = [
+            Part::U8(self.version),
+            Part::U32(self.flags),
+            Part::U32(self.sample_count),
+            Part::SomeI32(self.data_offset),
+            Part::SomeU32(self.first_sample_flags),
+        ];
+        put_row(TRUN, &parts, sink)?;
+        show_shape::<RunSamples, _, K>((), view, self, sink)
     }
 }

@@ -1,63 +1,63 @@
 //! The fields of the headers of media, and of references to media data.
 
+ghost use Rattle.mp4_show.specs.BoxRows.{smhd_row, vmhd_row};
+ghost use Rattle.mp4_show.specs.Row.{shown_row, whole_row};
 ghost use Rattle.mp4_show.specs.declared.fields.media.TheConstants.{DINF, DREF, SMHD, URL, VMHD};
 
 use crate::box_fields::BoxFields;
 use crate::flag_names::REFERENCE;
+use crate::row::{Part, put_row};
 use crate::shapes::{FieldsOf, LossyText, Optional};
-use mp4_declared::{Full, I16, Last, U16, parts_of};
+use mp4_declared::{Full, Last, parts_of};
 use mp4_shown::{
-    FLAGS, FieldSink, Group, NamedShape, Result, VERSION, View, names_of, number, show_shape,
+    FLAGS, FieldSink, Group, NamedShape, NumberName, Result, VERSION, View, names_of, number,
+    show_shape,
 };
 use mp4_stream::{DinfBox, DrefBox, SmhdBox, UrlBox, VmhdBox};
 
-/// Video media header (ISO/IEC 14496-12, 12.1.2).
-type VmhdShown = Full<256, (U16, U16, U16, Last<U16>)>;
-
-/// The names of its fields.
-const VMHD: <VmhdShown as NamedShape>::Names = names_of!(
+/// The fields of a video media header (ISO/IEC 14496-12, 12.1.2).
+const VMHD: &[NumberName] = &[
     VERSION,
     FLAGS,
     number!("graphicsmode"),
     number!("opcolor_red"),
     number!("opcolor_green"),
-    number!("opcolor_blue")
-);
+    number!("opcolor_blue"),
+];
 
 impl BoxFields for VmhdBox {
-    ghost shown = { λ view b. ⟦<VmhdShown as NamedShape>⟧.shown VMHD view
-        (b.version, (b.flags, (b.graphics_mode, (b.op_color.red, (b.op_color.green, (b.op_color.blue, tt)))))) };
+    ghost shown = { λ view b. shown_row VMHD.now (vmhd_row b) };
 
-    ghost whole = { λ view b. ⟦<VmhdShown as NamedShape>⟧.whole VMHD view
-        (b.version, (b.flags, (b.graphics_mode, (b.op_color.red, (b.op_color.green, (b.op_color.blue, tt)))))) };
+    ghost whole = { λ view b. whole_row VMHD.now (vmhd_row b) };
 
-    fn show<K: FieldSink>(&self, view: View, sink: &mut K) -> Result<()> {
-        let red = self.op_color.red;
-        let green = self.op_color.green;
-        let blue = self.op_color.blue;
-        let parts = parts_of!(self => version, flags, graphics_mode, = red, = green, = blue);
-        show_shape::<VmhdShown, _, K>(VMHD, view, parts, sink)
+    fn show<K: FieldSink>(&self, _view: View, sink: &mut K) -> Result<()> {
+        let parts = [
+            Part::U8(self.version),
+            Part::U32(self.flags),
+            Part::U16(self.graphics_mode),
+            Part::U16(self.op_color.red),
+            Part::U16(self.op_color.green),
+            Part::U16(self.op_color.blue),
+        ];
+        put_row(VMHD, &parts, sink)
     }
 }
 
-/// Sound media header (ISO/IEC 14496-12, 12.2.2).
-type SmhdShown = Full<256, Last<I16>>;
-
-/// The names of its fields.
-const SMHD: <SmhdShown as NamedShape>::Names = names_of!(
-    VERSION,
-    FLAGS,
-    number!("balance", Fixed(8))
-);
+/// The fields of a sound media header (ISO/IEC 14496-12, 12.2.2).
+const SMHD: &[NumberName] = &[VERSION, FLAGS, number!("balance", Fixed(8))];
 
 impl BoxFields for SmhdBox {
-    ghost shown = { λ view b. ⟦<SmhdShown as NamedShape>⟧.shown SMHD view (b.version, (b.flags, (b.balance, tt))) };
+    ghost shown = { λ view b. shown_row SMHD.now (smhd_row b) };
 
-    ghost whole = { λ view b. ⟦<SmhdShown as NamedShape>⟧.whole SMHD view (b.version, (b.flags, (b.balance, tt))) };
+    ghost whole = { λ view b. whole_row SMHD.now (smhd_row b) };
 
-    fn show<K: FieldSink>(&self, view: View, sink: &mut K) -> Result<()> {
-        let parts = parts_of!(self => version, flags, balance.raw_value());
-        show_shape::<SmhdShown, _, K>(SMHD, view, parts, sink)
+    fn show<K: FieldSink>(&self, _view: View, sink: &mut K) -> Result<()> {
+        let parts = [
+            Part::U8(self.version),
+            Part::U32(self.flags),
+            Part::I16(self.balance.raw_value()),
+        ];
+        put_row(SMHD, &parts, sink)
     }
 }
 

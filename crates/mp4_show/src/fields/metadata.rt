@@ -2,17 +2,19 @@
 
 ghost use Rattle.std.specs.Prelude.{◌≡◌, OnOk};
 ghost use Rattle.mp4_media.specs.DataType.{number_data_type};
+ghost use Rattle.mp4_show.specs.BoxRows.{emsg_row};
 ghost use Rattle.mp4_show.specs.Metadata.{integer, shown_integer, shown_value, whole_value};
+ghost use Rattle.mp4_show.specs.Row.{shown_row, whole_row};
 ghost use Rattle.mp4_show.specs.declared.fields.metadata.TheConstants.{DATA, EMSG};
 ghost use Rattle.mp4_shown.specs.Hands.{Hands};
 
 use crate::box_fields::BoxFields;
-use crate::shapes::{LossyText, Optional};
-use mp4_declared::{Full, Last, Rest, U32, U64, parts_of};
+use crate::row::{Part, field, put_row};
+use mp4_declared::{Last, U32};
 use mp4_frame::{i8_at, i16_at, i32_at};
 use mp4_shown::{
-    FLAGS, FieldSink, Meaning, NamedShape, Result, ShowShape, VERSION, Value, View, names_of,
-    number, run, show_shape,
+    FLAGS, FieldSink, Meaning, NamedShape, NumberName, Result, ShowShape, VERSION, Value, View,
+    names_of, number, show_shape,
 };
 use mp4_stream::{DataBox, DataType, EmsgBox, Entries};
 
@@ -121,77 +123,38 @@ impl BoxFields for DataBox {
     }
 }
 
-/// An event (ISO/IEC 23009-1, 5.10.3.3). The field of the other version is left out.
-type EmsgShown = Full<
-    256,
-    (
-        LossyText,
-        LossyText,
-        U32,
-        Optional<U64>,
-        (Optional<U32>, U32, U32, Last<Rest>),
-    ),
->;
-
-/// The names of its fields.
-const EMSG: <EmsgShown as NamedShape>::Names = names_of!(
+/// The fields of an event (ISO/IEC 23009-1, 5.10.3.3). The field of the other version is left out.
+const EMSG: &[NumberName] = &[
     VERSION,
     FLAGS,
-    "scheme_id_uri",
-    "value",
+    field!("scheme_id_uri"),
+    field!("value"),
     number!("timescale"),
     number!("presentation_time"),
     number!("presentation_time_delta"),
     number!("event_duration"),
     number!("id"),
-    run!("message_data", Bytes)
-);
+    field!("message_data"),
+];
 
 impl BoxFields for EmsgBox {
-    ghost shown = { λ view b. ⟦<EmsgShown as NamedShape>⟧.shown EMSG view (
-      b.version,
-      (
-        b.flags,
-        (
-          b.scheme_id_uri,
-          (
-            b.value,
-            (
-              b.timescale,
-              (
-                b.presentation_time,
-                (b.presentation_time_delta, (b.event_duration, (b.id, (b.message_data, tt)))),
-              ),
-            ),
-          ),
-        ),
-      ),
-    ) };
+    ghost shown = { λ view b. shown_row EMSG.now (emsg_row b) };
 
-    ghost whole = { λ view b. ⟦<EmsgShown as NamedShape>⟧.whole EMSG view (
-      b.version,
-      (
-        b.flags,
-        (
-          b.scheme_id_uri,
-          (
-            b.value,
-            (
-              b.timescale,
-              (
-                b.presentation_time,
-                (b.presentation_time_delta, (b.event_duration, (b.id, (b.message_data, tt)))),
-              ),
-            ),
-          ),
-        ),
-      ),
-    ) };
+    ghost whole = { λ view b. whole_row EMSG.now (emsg_row b) };
 
-    fn show<K: FieldSink>(&self, view: View, sink: &mut K) -> Result<()> {
-        let parts =
-            parts_of!(self => version, flags, scheme_id_uri.as_bytes(), value.as_bytes(), timescale,
-            presentation_time, presentation_time_delta, event_duration, id, message_data.as_slice());
-        show_shape::<EmsgShown, _, K>(EMSG, view, parts, sink)
+    fn show<K: FieldSink>(&self, _view: View, sink: &mut K) -> Result<()> {
+        let parts = [
+            Part::U8(self.version),
+            Part::U32(self.flags),
+            Part::Text(self.scheme_id_uri.as_bytes()),
+            Part::Text(self.value.as_bytes()),
+            Part::U32(self.timescale),
+            Part::SomeU64(self.presentation_time),
+            Part::SomeU32(self.presentation_time_delta),
+            Part::U32(self.event_duration),
+            Part::U32(self.id),
+            Part::Bytes(self.message_data.as_slice()),
+        ];
+        put_row(EMSG, &parts, sink)
     }
 }

@@ -1,12 +1,19 @@
 //! The fields of the sample entry of MPEG-4 audio, of its descriptors, and of sample descriptions.
 
+ghost use Rattle.std.specs.Prelude.{◌++◌, codes};
+ghost use Rattle.mp4_show.specs.Row.{shown_row, whole_row};
+ghost use Rattle.mp4_show.specs.SoundRows.{config_row, esds_row, specific_row, stream_row};
 ghost use Rattle.mp4_show.specs.declared.fields.sound.TheConstants.{CONFIG, ESDS, MP4A, SPECIFIC, STREAM, STSD};
+ghost use Rattle.mp4_shown.specs.Members.{members_append, whole_group};
+ghost use Rattle.mp4_shown.specs.Shapes.{shown_group};
 
 use crate::box_fields::BoxFields;
+use crate::row::{Part, put_group, put_row};
 use crate::shapes::{FieldsOf, Optional};
-use mp4_declared::{Full, Last, U8, U16, U32, parts_of};
+use mp4_declared::{Full, Last, U16, U32, parts_of};
 use mp4_shown::{
-    FLAGS, FieldSink, Group, NamedShape, Result, VERSION, View, names_of, number, show_shape,
+    FLAGS, FieldSink, Group, NamedShape, NumberName, Result, VERSION, View, names_of, number,
+    show_shape,
 };
 use mp4_stream::{
     Avc1Box, DecoderConfigDescriptor, DecoderSpecificDescriptor, ESDescriptor, EsdsBox, Hev1Box,
@@ -14,128 +21,94 @@ use mp4_stream::{
 };
 
 /// The configuration of a decoder of MPEG-4 audio (ISO/IEC 14496-3, 1.6.2.1).
-type SpecificShown = (U8, U8, Optional<U32>, Last<U8>);
-
-/// The names of its fields.
-const SPECIFIC: <SpecificShown as NamedShape>::Names = names_of!(
+const SPECIFIC: &[NumberName] = &[
     number!("audioObjectType"),
     number!("samplingFrequencyIndex"),
     number!("samplingFrequency"),
-    number!("channelConfiguration")
-);
+    number!("channelConfiguration"),
+];
 
 impl BoxFields for DecoderSpecificDescriptor {
-    ghost shown = { λ view b. ⟦<SpecificShown as NamedShape>⟧.shown SPECIFIC view
-        (b.profile, (b.freq_index, (b.sample_rate, (b.chan_conf, tt)))) };
+    ghost shown = { λ view b. shown_row SPECIFIC.now (specific_row b) };
 
-    ghost whole = { λ view b. ⟦<SpecificShown as NamedShape>⟧.whole SPECIFIC view
-        (b.profile, (b.freq_index, (b.sample_rate, (b.chan_conf, tt)))) };
+    ghost whole = { λ view b. whole_row SPECIFIC.now (specific_row b) };
 
-    fn show<K: FieldSink>(&self, view: View, sink: &mut K) -> Result<()> {
-        let parts = parts_of!(self => profile, freq_index, sample_rate, chan_conf);
-        show_shape::<SpecificShown, _, K>(SPECIFIC, view, parts, sink)
+    fn show<K: FieldSink>(&self, _view: View, sink: &mut K) -> Result<()> {
+        let parts = [
+            Part::U8(self.profile),
+            Part::U8(self.freq_index),
+            Part::SomeU32(self.sample_rate),
+            Part::U8(self.chan_conf),
+        ];
+        put_row(SPECIFIC, &parts, sink)
     }
 }
 
 /// The configuration of the decoder of a stream (ISO/IEC 14496-1, 7.2.6.6).
-type ConfigShown = (
-    U8,
-    U8,
-    U8,
-    U32,
-    (U32, U32, Last<Group<FieldsOf<DecoderSpecificDescriptor>>>),
-);
-
-/// The names of its fields.
-const CONFIG: <ConfigShown as NamedShape>::Names = names_of!(
+const CONFIG: &[NumberName] = &[
     number!("objectTypeIndication"),
     number!("streamType"),
     number!("upStream"),
     number!("bufferSizeDB"),
     number!("maxBitrate"),
     number!("avgBitrate"),
-    ("decSpecificInfo", ())
-);
+];
 
 impl BoxFields for DecoderConfigDescriptor {
-    ghost shown = { λ view b. ⟦<ConfigShown as NamedShape>⟧.shown CONFIG view (
-      b.object_type_indication,
-      (
-        b.stream_type,
-        (
-          b.up_stream,
-          (
-            b.buffer_size_db,
-            (
-              b.max_bitrate,
-              (b.avg_bitrate, (b.dec_specific, tt)),
-            ),
-          ),
-        ),
-      ),
-    ) };
+    ghost shown = { λ view b. shown_row CONFIG.now (config_row b) ++ shown_group (codes "decSpecificInfo") (⟦<DecoderSpecificDescriptor as BoxFields>⟧.shown view b.dec_specific) };
 
-    ghost whole = { λ view b. ⟦<ConfigShown as NamedShape>⟧.whole CONFIG view (
-      b.object_type_indication,
-      (
-        b.stream_type,
-        (
-          b.up_stream,
-          (
-            b.buffer_size_db,
-            (
-              b.max_bitrate,
-              (b.avg_bitrate, (b.dec_specific, tt)),
-            ),
-          ),
-        ),
-      ),
-    ) };
+    ghost whole = { λ view b. members_append (shown_row CONFIG.now (config_row b))
+        (shown_group (codes "decSpecificInfo") (⟦<DecoderSpecificDescriptor as BoxFields>⟧.shown view b.dec_specific)) (whole_row CONFIG.now (config_row b))
+        (whole_group (codes "decSpecificInfo") (⟦<DecoderSpecificDescriptor as BoxFields>⟧.shown view b.dec_specific)
+        (⟦<DecoderSpecificDescriptor as BoxFields>⟧.whole view b.dec_specific)) };
 
     fn show<K: FieldSink>(&self, view: View, sink: &mut K) -> Result<()> {
-        let specific = &self.dec_specific;
-        let parts =
-            parts_of!(self => object_type_indication, stream_type, up_stream, buffer_size_db, max_bitrate,
-            avg_bitrate, = specific);
-        show_shape::<ConfigShown, _, K>(CONFIG, view, parts, sink)
+        let parts = [
+            Part::U8(self.object_type_indication),
+            Part::U8(self.stream_type),
+            Part::U8(self.up_stream),
+            Part::U32(self.buffer_size_db),
+            Part::U32(self.max_bitrate),
+            Part::U32(self.avg_bitrate),
+        ];
+        put_row(CONFIG, &parts, sink)?;
+        put_group("decSpecificInfo", &self.dec_specific, view, sink)
     }
 }
 
 /// The description of a stream (ISO/IEC 14496-1, 7.2.6.5).
-type StreamShown = (U16, Last<Group<FieldsOf<DecoderConfigDescriptor>>>);
-
-/// The names of its fields.
-const STREAM: <StreamShown as NamedShape>::Names = names_of!(
-    number!("ES_ID"),
-    ("decConfigDescr", ())
-);
+const STREAM: &[NumberName] = &[number!("ES_ID")];
 
 impl BoxFields for ESDescriptor {
-    ghost shown = { λ view b. ⟦<StreamShown as NamedShape>⟧.shown STREAM view (b.es_id, (b.dec_config, tt)) };
+    ghost shown = { λ view b. shown_row STREAM.now (stream_row b) ++ shown_group (codes "decConfigDescr") (⟦<DecoderConfigDescriptor as BoxFields>⟧.shown view b.dec_config) };
 
-    ghost whole = { λ view b. ⟦<StreamShown as NamedShape>⟧.whole STREAM view (b.es_id, (b.dec_config, tt)) };
+    ghost whole = { λ view b. members_append (shown_row STREAM.now (stream_row b))
+        (shown_group (codes "decConfigDescr") (⟦<DecoderConfigDescriptor as BoxFields>⟧.shown view b.dec_config)) (whole_row STREAM.now (stream_row b))
+        (whole_group (codes "decConfigDescr") (⟦<DecoderConfigDescriptor as BoxFields>⟧.shown view b.dec_config)
+        (⟦<DecoderConfigDescriptor as BoxFields>⟧.whole view b.dec_config)) };
 
     fn show<K: FieldSink>(&self, view: View, sink: &mut K) -> Result<()> {
-        let config = &self.dec_config;
-        show_shape::<StreamShown, _, K>(STREAM, view, (self.es_id, (config, ())), sink)
+        let parts = [Part::U16(self.es_id)];
+        put_row(STREAM, &parts, sink)?;
+        put_group("decConfigDescr", &self.dec_config, view, sink)
     }
 }
 
 /// The box with the description of a stream of MPEG-4 audio (ISO/IEC 14496-14, 5.6).
-type EsdsShown = Full<256, Last<Group<FieldsOf<ESDescriptor>>>>;
-
-/// The names of its fields.
-const ESDS: <EsdsShown as NamedShape>::Names = names_of!(VERSION, FLAGS, ("ES", ()));
+const ESDS: &[NumberName] = &[VERSION, FLAGS];
 
 impl BoxFields for EsdsBox {
-    ghost shown = { λ view b. ⟦<EsdsShown as NamedShape>⟧.shown ESDS view (b.version, (b.flags, (b.es_desc, tt))) };
+    ghost shown = { λ view b. shown_row ESDS.now (esds_row b) ++ shown_group (codes "ES") (⟦<ESDescriptor as BoxFields>⟧.shown view b.es_desc) };
 
-    ghost whole = { λ view b. ⟦<EsdsShown as NamedShape>⟧.whole ESDS view (b.version, (b.flags, (b.es_desc, tt))) };
+    ghost whole = { λ view b. members_append (shown_row ESDS.now (esds_row b))
+        (shown_group (codes "ES") (⟦<ESDescriptor as BoxFields>⟧.shown view b.es_desc)) (whole_row ESDS.now (esds_row b))
+        (whole_group (codes "ES") (⟦<ESDescriptor as BoxFields>⟧.shown view b.es_desc)
+        (⟦<ESDescriptor as BoxFields>⟧.whole view b.es_desc)) };
 
     fn show<K: FieldSink>(&self, view: View, sink: &mut K) -> Result<()> {
-        let stream = &self.es_desc;
-        let parts = parts_of!(self => version, flags, = stream);
-        show_shape::<EsdsShown, _, K>(ESDS, view, parts, sink)
+        let parts = [Part::U8(self.version), Part::U32(self.flags)];
+        put_row(ESDS, &parts, sink)?;
+        put_group("ES", &self.es_desc, view, sink)
     }
 }
 

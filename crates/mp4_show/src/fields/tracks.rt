@@ -1,163 +1,93 @@
 //! The fields of the boxes of a track: its header, its edits, its media's header and handler.
 
-ghost use Rattle.std.specs.Prelude.{◌≡◌, ◌++◌};
+ghost use Rattle.std.specs.Prelude.{◌≡◌};
 ghost use Rattle.std.specs.Int.{w16, cast_signed};
+ghost use Rattle.mp4_show.specs.BoxRows.{mdhd_row, tkhd_row};
 ghost use Rattle.mp4_show.specs.Edits.{signed_time};
-ghost use Rattle.mp4_show.specs.declared.fields.tracks.TheConstants.{EDIT, ELST, HDLR, MDHD, TKHD, TKHD_REST};
+ghost use Rattle.mp4_show.specs.Row.{shown_row, whole_row};
+ghost use Rattle.mp4_show.specs.declared.fields.tracks.TheConstants.{EDIT, ELST, HDLR, MDHD, TKHD};
 ghost use Rattle.mp4_shown.specs.Lists.{entry_of};
-ghost use Rattle.mp4_shown.specs.Members.{members_append, whole_entry};
+ghost use Rattle.mp4_shown.specs.Members.{whole_entry};
 
 use crate::box_fields::BoxFields;
 use crate::entries_in::{BoxEntry, EntriesIn};
 use crate::flag_names::TRACK;
-use crate::language::Language;
-use crate::shapes::{LossyText, MediaTime, Transformation};
-use mp4_declared::{Code, Full, I16, Last, U32, U64, parts_of};
+use crate::row::{Part, field, put_row};
+use crate::shapes::{LossyText, MediaTime};
+use mp4_declared::{Code, Full, I16, Last, U64, parts_of};
 use mp4_shown::{
-    FLAGS, FieldSink, NamedShape, Result, VERSION, View, names_of, number, show_shape,
+    FLAGS, FieldSink, NamedShape, NumberName, Result, VERSION, View, names_of, number, show_shape,
 };
 use mp4_stream::{ElstBox, ElstEntry, HdlrBox, MdhdBox, TkhdBox};
 
-/// The front of a track header (ISO/IEC 14496-12, 8.3.2).
-type TkhdFront = Full<256, (U64, U64, U32, Last<U64>)>;
-
-/// The names of its fields.
-const TKHD: <TkhdFront as NamedShape>::Names = names_of!(
+/// The fields of a track header (ISO/IEC 14496-12, 8.3.2). The standard has a sign in `layer`, `alternate_group` and
+/// `volume`.
+const TKHD: &[NumberName] = &[
     VERSION,
     number!("flags", Flags(6), TRACK),
     number!("creation_time", Date),
     number!("modification_time", Date),
     number!("track_ID"),
-    number!("duration")
-);
-
-/// The fields of a track header after its duration. The standard has a sign in the first three.
-type TkhdRest = (I16, I16, I16, Transformation, (U32, Last<U32>));
-
-/// The names of its fields.
-const TKHD_REST: <TkhdRest as NamedShape>::Names = names_of!(
+    number!("duration"),
     number!("layer"),
     number!("alternate_group"),
     number!("volume", Fixed(8)),
-    "matrix",
+    field!("matrix"),
     number!("width", Fixed(16)),
-    number!("height", Fixed(16))
-);
+    number!("height", Fixed(16)),
+];
 
 impl BoxFields for TkhdBox {
-    ghost shown = { λ view b. ⟦<TkhdFront as NamedShape>⟧.shown TKHD view
-        (b.version, (b.flags, (b.creation_time, (b.modification_time, (b.track_id, (b.duration, tt))))))
-        ++ ⟦<TkhdRest as NamedShape>⟧.shown TKHD_REST view (
-          cast_signed w16 b.layer,
-          (
-            cast_signed w16 b.alternate_group,
-            (
-              cast_signed w16 b.volume,
-              (b.matrix, (b.width, (b.height, tt))),
-            ),
-          ),
-        ) };
+    ghost shown = { λ view b. shown_row TKHD.now (tkhd_row b) };
 
-    ghost whole = { λ view b. members_append (⟦<TkhdFront as NamedShape>⟧.shown TKHD view
-        (b.version, (b.flags, (b.creation_time, (b.modification_time, (b.track_id, (b.duration, tt)))))))
-        (⟦<TkhdRest as NamedShape>⟧.shown TKHD_REST view (
-          cast_signed w16 b.layer,
-          (
-            cast_signed w16 b.alternate_group,
-            (
-              cast_signed w16 b.volume,
-              (b.matrix, (b.width, (b.height, tt))),
-            ),
-          ),
-        ))
-        (⟦<TkhdFront as NamedShape>⟧.whole TKHD view
-        (b.version, (b.flags, (b.creation_time, (b.modification_time, (b.track_id, (b.duration, tt)))))))
-        (⟦<TkhdRest as NamedShape>⟧.whole TKHD_REST view (
-          cast_signed w16 b.layer,
-          (
-            cast_signed w16 b.alternate_group,
-            (
-              cast_signed w16 b.volume,
-              (b.matrix, (b.width, (b.height, tt))),
-            ),
-          ),
-        )) };
+    ghost whole = { λ view b. whole_row TKHD.now (tkhd_row b) };
 
-    fn show<K: FieldSink>(&self, view: View, sink: &mut K) -> Result<()> {
-        let layer = self.layer.cast_signed();
-        let alternate_group = self.alternate_group.cast_signed();
-        let volume = self.volume.raw_value().cast_signed();
-        let matrix = &self.matrix;
-        let front =
-            parts_of!(self => version, flags, creation_time, modification_time, track_id, duration);
-        let rest =
-            parts_of!(self => = layer, = alternate_group, = volume, = matrix, width.raw_value(),
-            height.raw_value());
-        show_shape::<TkhdFront, _, K>(TKHD, view, front, sink)?;
-        show_shape::<TkhdRest, _, K>(TKHD_REST, view, rest, sink)
+    fn show<K: FieldSink>(&self, _view: View, sink: &mut K) -> Result<()> {
+        let parts = [
+            Part::U8(self.version),
+            Part::U32(self.flags),
+            Part::U64(self.creation_time),
+            Part::U64(self.modification_time),
+            Part::U32(self.track_id),
+            Part::U64(self.duration),
+            Part::I16(self.layer.cast_signed()),
+            Part::I16(self.alternate_group.cast_signed()),
+            Part::I16(self.volume.raw_value().cast_signed()),
+            Part::Matrix(&self.matrix),
+            Part::U32(self.width.raw_value()),
+            Part::U32(self.height.raw_value()),
+        ];
+        put_row(TKHD, &parts, sink)
     }
 }
 
-/// Media header (ISO/IEC 14496-12, 8.4.2).
-type MdhdShown = Full<256, (U64, U64, U32, U64, Last<Language>)>;
-
-/// The names of its fields.
-const MDHD: <MdhdShown as NamedShape>::Names = names_of!(
+/// The fields of a media header (ISO/IEC 14496-12, 8.4.2).
+const MDHD: &[NumberName] = &[
     VERSION,
     FLAGS,
     number!("creation_time", Date),
     number!("modification_time", Date),
     number!("timescale"),
     number!("duration"),
-    "language"
-);
+    field!("language"),
+];
 
 impl BoxFields for MdhdBox {
-    ghost shown = { λ view b. ⟦<MdhdShown as NamedShape>⟧.shown MDHD view (
-      b.version,
-      (
-        b.flags,
-        (
-          b.creation_time,
-          (
-            b.modification_time,
-            (
-              b.timescale,
-              (
-                b.duration,
-                (b.language, tt),
-              ),
-            ),
-          ),
-        ),
-      ),
-    ) };
+    ghost shown = { λ view b. shown_row MDHD.now (mdhd_row b) };
 
-    ghost whole = { λ view b. ⟦<MdhdShown as NamedShape>⟧.whole MDHD view (
-      b.version,
-      (
-        b.flags,
-        (
-          b.creation_time,
-          (
-            b.modification_time,
-            (
-              b.timescale,
-              (
-                b.duration,
-                (b.language, tt),
-              ),
-            ),
-          ),
-        ),
-      ),
-    ) };
+    ghost whole = { λ view b. whole_row MDHD.now (mdhd_row b) };
 
-    fn show<K: FieldSink>(&self, view: View, sink: &mut K) -> Result<()> {
-        let language = &self.language;
-        let parts = parts_of!(self => version, flags, creation_time, modification_time, timescale,
-            duration, = language);
-        show_shape::<MdhdShown, _, K>(MDHD, view, parts, sink)
+    fn show<K: FieldSink>(&self, _view: View, sink: &mut K) -> Result<()> {
+        let parts = [
+            Part::U8(self.version),
+            Part::U32(self.flags),
+            Part::U64(self.creation_time),
+            Part::U64(self.modification_time),
+            Part::U32(self.timescale),
+            Part::U64(self.duration),
+            Part::Language(self.language.as_str()),
+        ];
+        put_row(MDHD, &parts, sink)
     }
 }
 
