@@ -195,7 +195,7 @@ const CHANNEL: &[NumberName] = &[
 ];
 
 /// The names of the fields.
-const NAMES: <ChanShape as NamedShape>::Names = names_of!(
+const NAMES: &<ChanShape as NamedShape>::Names = &names_of!(
     VERSION,
     FLAGS,
     number!("mChannelLayoutTag", Named, LAYOUTS),
@@ -232,10 +232,10 @@ fn show_by<K: FieldSink>(
 }
 
 impl HasFields for Chan {
-    ghost shown = { λ view b. shown_by ⟦<ChanShape as NamedShape>⟧.shown NAMES view
+    ghost shown = { λ view b. shown_by ⟦<ChanShape as NamedShape>⟧.shown NAMES.now view
         (⟦<Chan as DeclaredBox>⟧.layout.content b) };
 
-    ghost whole = { λ view b. whole_by ⟦<ChanShape as NamedShape>⟧.shown ⟦<ChanShape as NamedShape>⟧.whole NAMES view
+    ghost whole = { λ view b. whole_by ⟦<ChanShape as NamedShape>⟧.shown ⟦<ChanShape as NamedShape>⟧.whole NAMES.now view
         (⟦<Chan as DeclaredBox>⟧.layout.content b) };
 
     fn show<K: FieldSink>(&self, view: View, sink: &mut K) -> mp4_shown::Result<()> {

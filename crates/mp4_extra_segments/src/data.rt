@@ -399,7 +399,7 @@ impl<'a> ShowShape<(bool, (u32, &'a [u8]))> for TypedValue {
 type DataShown = (U8, NamedBy<U24>, Country, Language, TypedValue);
 
 /// The names of the fields.
-const NAMES: <DataShown as NamedShape>::Names = (
+const NAMES: &<DataShown as NamedShape>::Names = &(
     number!("type_set", Reserved(0)),
     (
         (
@@ -423,12 +423,12 @@ const NAMES: <DataShown as NamedShape>::Names = (
 );
 
 impl HasFields for Data {
-    ghost shown = { λ view b. ⟦<DataShown as NamedShape>⟧.shown NAMES view (
+    ghost shown = { λ view b. ⟦<DataShown as NamedShape>⟧.shown NAMES.now view (
       b.type_set,
       ((b.type_set == 0, b.data_type), (b.country, (b.language, (b.type_set == 0, (b.data_type, b.value))))),
     ) };
 
-    ghost whole = { λ view b. ⟦<DataShown as NamedShape>⟧.whole NAMES view (
+    ghost whole = { λ view b. ⟦<DataShown as NamedShape>⟧.whole NAMES.now view (
       b.type_set,
       ((b.type_set == 0, b.data_type), (b.country, (b.language, (b.type_set == 0, (b.data_type, b.value))))),
     ) };
@@ -438,7 +438,7 @@ impl HasFields for Data {
         let value = (is_known, (self.data_type, self.value.as_slice()));
         let locale = (self.country, (self.language, value));
         let parts = (self.type_set, ((is_known, self.data_type), locale));
-        DataShown::show(NAMES, view, parts, sink)
+        DataShown::show(NAMES, view, &parts, sink)
     }
 }
 

@@ -151,7 +151,7 @@ type PsshShown = Full<
 >;
 
 /// The names of the fields.
-const NAMES: <PsshShown as NamedShape>::Names = names_of!(
+const NAMES: &<PsshShown as NamedShape>::Names = &names_of!(
     VERSION,
     FLAGS,
     ("SystemID", "SystemID_name"),
@@ -160,9 +160,9 @@ const NAMES: <PsshShown as NamedShape>::Names = names_of!(
 );
 
 impl HasFields for Pssh {
-    ghost shown = { λ view b. ⟦<PsshShown as NamedShape>⟧.shown NAMES view (⟦<Pssh as DeclaredBox>⟧.layout.content b) };
+    ghost shown = { λ view b. ⟦<PsshShown as NamedShape>⟧.shown NAMES.now view (⟦<Pssh as DeclaredBox>⟧.layout.content b) };
 
-    ghost whole = { λ view b. ⟦<PsshShown as NamedShape>⟧.whole NAMES view (⟦<Pssh as DeclaredBox>⟧.layout.content b) };
+    ghost whole = { λ view b. ⟦<PsshShown as NamedShape>⟧.whole NAMES.now view (⟦<Pssh as DeclaredBox>⟧.layout.content b) };
 
     fn show<K: FieldSink>(&self, view: View, sink: &mut K) -> mp4_shown::Result<()> {
         let key_ids = match &self.key_ids {
@@ -170,7 +170,7 @@ impl HasFields for Pssh {
             None => None,
         };
         let parts = parts_of!(self => version, flags, system_id, = key_ids, system_data.as_slice());
-        show_shape::<PsshShown, _, K>(NAMES, view, parts, sink)
+        show_shape::<PsshShown, _, K>(NAMES, view, &parts, sink)
     }
 }
 
