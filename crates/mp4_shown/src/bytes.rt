@@ -28,12 +28,12 @@ impl<'a> ShowShape<&'a [u8]> for Rest {
     ghost content = { λ run. run.now };
 
     fn show<K: FieldSink>(
-        name: BytesName,
+        name: &BytesName,
         view: View,
-        value: &'a [u8],
+        value: &&'a [u8],
         sink: &mut K,
     ) -> Result<()> {
-        put_bytes(name, view.rows, value, sink)
+        put_bytes(*name, view.rows, *value, sink)
     }
 }
 
@@ -55,12 +55,12 @@ impl<'a, C: Count> ShowShape<&'a [u8]> for Bytes<C> {
     ghost content = { λ run. run.now };
 
     fn show<K: FieldSink>(
-        name: BytesName,
+        name: &BytesName,
         view: View,
-        value: &'a [u8],
+        value: &&'a [u8],
         sink: &mut K,
     ) -> Result<()> {
-        put_bytes(name, view.rows, value, sink)
+        put_bytes(*name, view.rows, *value, sink)
     }
 }
 
@@ -82,12 +82,12 @@ impl<'a> ShowShape<&'a [u8]> for Terminated {
     ghost content = { λ run. run.now };
 
     fn show<K: FieldSink>(
-        name: BytesName,
+        name: &BytesName,
         view: View,
-        value: &'a [u8],
+        value: &&'a [u8],
         sink: &mut K,
     ) -> Result<()> {
-        put_bytes(name, view.rows, value, sink)
+        put_bytes(*name, view.rows, *value, sink)
     }
 }
 
@@ -109,12 +109,12 @@ impl<'a, const N: usize> ShowShape<&'a [u8]> for Pascal<N> {
     ghost content = { λ run. run.now };
 
     fn show<K: FieldSink>(
-        name: BytesName,
+        name: &BytesName,
         view: View,
-        value: &'a [u8],
+        value: &&'a [u8],
         sink: &mut K,
     ) -> Result<()> {
-        put_bytes(name, view.rows, value, sink)
+        put_bytes(*name, view.rows, *value, sink)
     }
 }
 
@@ -135,7 +135,12 @@ impl<const N: usize> NamedShape for Array<N> {
 impl<const N: usize> ShowShape<[u8; N]> for Array<N> {
     ghost content = { λ bytes. bytes };
 
-    fn show<K: FieldSink>(name: BytesName, view: View, value: [u8; N], sink: &mut K) -> Result<()> {
-        put_bytes(name, view.rows, &value, sink)
+    fn show<K: FieldSink>(
+        name: &BytesName,
+        view: View,
+        value: &[u8; N],
+        sink: &mut K,
+    ) -> Result<()> {
+        put_bytes(*name, view.rows, value, sink)
     }
 }

@@ -34,12 +34,12 @@ impl ShowShape<FourCC> for Code {
     ghost content = { λ code. code };
 
     fn show<K: FieldSink>(
-        name: &'static str,
+        name: &&'static str,
         _view: View,
-        value: FourCC,
+        value: &FourCC,
         sink: &mut K,
     ) -> Result<()> {
-        sink.field(name, Value::Code(value))
+        sink.field(*name, Value::Code(*value))
     }
 }
 
@@ -62,12 +62,12 @@ impl<'a> ShowShape<&'a [FourCC]> for Codes {
     ghost content = { λ codes. codes.now };
 
     fn show<K: FieldSink>(
-        name: &'static str,
+        name: &&'static str,
         _view: View,
-        value: &'a [FourCC],
+        value: &&'a [FourCC],
         sink: &mut K,
     ) -> Result<()> {
-        sink.field(name, Value::Codes(value))
+        sink.field(*name, Value::Codes(*value))
     }
 }
 
@@ -99,13 +99,13 @@ impl<'a> ShowShape<&'a [u32]> for Numbers {
     ghost content = { λ numbers. numbers.now };
 
     fn show<K: FieldSink>(
-        name: &'static str,
+        name: &&'static str,
         view: View,
-        value: &'a [u32],
+        value: &&'a [u32],
         sink: &mut K,
     ) -> Result<()> {
-        sink.begin_list(name, value.len())?;
-        put_items(first(value, view.rows), sink)?;
+        sink.begin_list(*name, value.len())?;
+        put_items(first(*value, view.rows), sink)?;
         sink.end_list()
     }
 }

@@ -69,8 +69,13 @@ impl<C, X: ShownEntry> NamedShape for Each<C, X> {
 impl<'a, C, X: ShownEntry> ShowShape<&'a [X]> for Each<C, X> {
     ghost content = { λ entries. entries.now };
 
-    fn show<K: FieldSink>(name: ListName, view: View, value: &'a [X], sink: &mut K) -> Result<()> {
-        put_list(name, value, view, sink)
+    fn show<K: FieldSink>(
+        name: &ListName,
+        view: View,
+        value: &&'a [X],
+        sink: &mut K,
+    ) -> Result<()> {
+        put_list(*name, *value, view, sink)
     }
 }
 
@@ -91,8 +96,13 @@ impl<X: ShownEntry> NamedShape for EachToEnd<X> {
 impl<'a, X: ShownEntry> ShowShape<&'a [X]> for EachToEnd<X> {
     ghost content = { λ entries. entries.now };
 
-    fn show<K: FieldSink>(name: ListName, view: View, value: &'a [X], sink: &mut K) -> Result<()> {
-        put_list(name, value, view, sink)
+    fn show<K: FieldSink>(
+        name: &ListName,
+        view: View,
+        value: &&'a [X],
+        sink: &mut K,
+    ) -> Result<()> {
+        put_list(*name, *value, view, sink)
     }
 }
 
@@ -116,7 +126,12 @@ impl<X: ShownEntry> NamedShape for EntriesOf<X> {
 impl<'a, X: ShownEntry> ShowShape<&'a [X]> for EntriesOf<X> {
     ghost content = { λ entries. entries.now };
 
-    fn show<K: FieldSink>(name: ListName, view: View, value: &'a [X], sink: &mut K) -> Result<()> {
-        put_list(name, value, view, sink)
+    fn show<K: FieldSink>(
+        name: &ListName,
+        view: View,
+        value: &&'a [X],
+        sink: &mut K,
+    ) -> Result<()> {
+        put_list(*name, *value, view, sink)
     }
 }

@@ -25,17 +25,17 @@ impl<S: NamedShape> NamedShape for Group<S> {
     ghost whole = { λ names view v. whole_group names.0.now (S.shown names.1 view v) (S.whole names.1 view v) };
 }
 
-impl<S: ShowShape<V>, V: Copy> ShowShape<V> for Group<S> {
+impl<S: ShowShape<V>, V> ShowShape<V> for Group<S> {
     ghost content = { S.content };
 
     fn show<K: FieldSink>(
-        names: (&'static str, S::Names),
+        names: &(&'static str, S::Names),
         view: View,
-        value: V,
+        value: &V,
         sink: &mut K,
     ) -> Result<()> {
         sink.begin_group(names.0)?;
-        S::show(names.1, view, value, sink)?;
+        S::show(&names.1, view, value, sink)?;
         sink.end_group()
     }
 }

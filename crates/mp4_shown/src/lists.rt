@@ -33,12 +33,12 @@ impl<X: EntryLayout<N, E>, const N: usize, const E: usize> ShowShape<X> for Bits
     ghost content = { λ x. x };
 
     fn show<K: FieldSink>(
-        names: &'static [NumberName],
+        names: &&'static [NumberName],
         _view: View,
-        value: X,
+        value: &X,
         sink: &mut K,
     ) -> Result<()> {
-        put_numbers(false, names, &value.numbers(), sink)
+        put_numbers(false, *names, &value.numbers(), sink)
     }
 }
 
@@ -119,12 +119,12 @@ impl<'a, C: Count, X: EntryLayout<N, E>, const N: usize, const E: usize> ShowSha
     ghost content = { λ entries. entries.now };
 
     fn show<K: FieldSink>(
-        names: (ListName, &'static [NumberName]),
+        names: &(ListName, &'static [NumberName]),
         view: View,
-        value: &'a [X],
+        value: &&'a [X],
         sink: &mut K,
     ) -> Result<()> {
-        put_list(names.0, names.1, view.rows, value, sink)
+        put_list(names.0, names.1, view.rows, *value, sink)
     }
 }
 
@@ -155,9 +155,9 @@ where
     ghost content = { λ entries. entries.now };
 
     fn show<K: FieldSink>(
-        names: (ListName, &'static [NumberName]),
+        names: &(ListName, &'static [NumberName]),
         view: View,
-        value: &'a [X],
+        value: &&'a [X],
         sink: &mut K,
     ) -> Result<()> {
         <List<C, X, N, F> as ShowShape<&'a [X]>>::show(names, view, value, sink)
@@ -186,11 +186,11 @@ impl<'a, X: EntryLayout<N, E>, const N: usize, const E: usize> ShowShape<&'a [X]
     ghost content = { λ entries. entries.now };
 
     fn show<K: FieldSink>(
-        names: (ListName, &'static [NumberName]),
+        names: &(ListName, &'static [NumberName]),
         view: View,
-        value: &'a [X],
+        value: &&'a [X],
         sink: &mut K,
     ) -> Result<()> {
-        put_list(names.0, names.1, view.rows, value, sink)
+        put_list(names.0, names.1, view.rows, *value, sink)
     }
 }

@@ -25,21 +25,19 @@ impl<S: NamedShape> NamedShape for NamedBy<S> {
         (S.whole names.0 view v.1) (S.whole names.1 view v.1) };
 }
 
-impl<S: ShowShape<V>, V: Copy> ShowShape<(bool, V)> for NamedBy<S> {
+impl<S: ShowShape<V>, V> ShowShape<(bool, V)> for NamedBy<S> {
     ghost content = { λ v. (v.0, S.content v.1) };
 
     fn show<K: FieldSink>(
-        names: Self::Names,
+        names: &Self::Names,
         view: View,
-        value: (bool, V),
+        value: &(bool, V),
         sink: &mut K,
     ) -> Result<()> {
-        let (first, second) = names;
-        let (holds, value) = value;
-        if holds {
-            S::show(first, view, value, sink)
+        if value.0 {
+            S::show(&names.0, view, &value.1, sink)
         } else {
-            S::show(second, view, value, sink)
+            S::show(&names.1, view, &value.1, sink)
         }
     }
 }

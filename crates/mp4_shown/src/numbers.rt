@@ -29,8 +29,8 @@ impl ShowShape<u8> for U8 {
     ghost content = { λ n. n };
 
     #[inline]
-    fn show<K: FieldSink>(name: NumberName, _view: View, value: u8, sink: &mut K) -> Result<()> {
-        put_number(name, u64::from(value), sink)
+    fn show<K: FieldSink>(name: &NumberName, _view: View, value: &u8, sink: &mut K) -> Result<()> {
+        put_number(*name, u64::from(*value), sink)
     }
 }
 
@@ -52,8 +52,8 @@ impl ShowShape<u16> for U16 {
     ghost content = { λ n. n };
 
     #[inline]
-    fn show<K: FieldSink>(name: NumberName, _view: View, value: u16, sink: &mut K) -> Result<()> {
-        put_number(name, u64::from(value), sink)
+    fn show<K: FieldSink>(name: &NumberName, _view: View, value: &u16, sink: &mut K) -> Result<()> {
+        put_number(*name, u64::from(*value), sink)
     }
 }
 
@@ -75,8 +75,8 @@ impl ShowShape<u32> for U24 {
     ghost content = { λ n. n };
 
     #[inline]
-    fn show<K: FieldSink>(name: NumberName, _view: View, value: u32, sink: &mut K) -> Result<()> {
-        put_number(name, u64::from(value), sink)
+    fn show<K: FieldSink>(name: &NumberName, _view: View, value: &u32, sink: &mut K) -> Result<()> {
+        put_number(*name, u64::from(*value), sink)
     }
 }
 
@@ -98,8 +98,8 @@ impl ShowShape<u32> for U32 {
     ghost content = { λ n. n };
 
     #[inline]
-    fn show<K: FieldSink>(name: NumberName, _view: View, value: u32, sink: &mut K) -> Result<()> {
-        put_number(name, u64::from(value), sink)
+    fn show<K: FieldSink>(name: &NumberName, _view: View, value: &u32, sink: &mut K) -> Result<()> {
+        put_number(*name, u64::from(*value), sink)
     }
 }
 
@@ -121,8 +121,8 @@ impl ShowShape<u64> for U64 {
     ghost content = { λ n. n };
 
     #[inline]
-    fn show<K: FieldSink>(name: NumberName, _view: View, value: u64, sink: &mut K) -> Result<()> {
-        put_number(name, value, sink)
+    fn show<K: FieldSink>(name: &NumberName, _view: View, value: &u64, sink: &mut K) -> Result<()> {
+        put_number(*name, *value, sink)
     }
 }
 
@@ -144,8 +144,8 @@ impl ShowShape<u64> for Time {
     ghost content = { λ n. n };
 
     #[inline]
-    fn show<K: FieldSink>(name: NumberName, _view: View, value: u64, sink: &mut K) -> Result<()> {
-        put_number(name, value, sink)
+    fn show<K: FieldSink>(name: &NumberName, _view: View, value: &u64, sink: &mut K) -> Result<()> {
+        put_number(*name, *value, sink)
     }
 }
 
@@ -168,7 +168,7 @@ impl<const N: usize> ShowShape<()> for Zeros<N> {
     ghost content = { λ v. v };
 
     #[inline]
-    fn show<K: FieldSink>(_names: (), _view: View, _value: (), _sink: &mut K) -> Result<()> {
+    fn show<K: FieldSink>(_names: &(), _view: View, _value: &(), _sink: &mut K) -> Result<()> {
         Ok(())
     }
 }

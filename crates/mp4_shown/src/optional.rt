@@ -23,13 +23,13 @@ impl<P: Condition, S: NamedShape> NamedShape for If<P, S> {
     ghost whole = { whole_if S.shown S.whole };
 }
 
-impl<P: Condition, S: ShowShape<V>, V: Copy> ShowShape<Option<V>> for If<P, S> {
+impl<P: Condition, S: ShowShape<V>, V> ShowShape<Option<V>> for If<P, S> {
     ghost content = { option_map S.content };
 
     fn show<K: FieldSink>(
-        names: S::Names,
+        names: &S::Names,
         view: View,
-        value: Option<V>,
+        value: &Option<V>,
         sink: &mut K,
     ) -> Result<()> {
         match value {
@@ -53,14 +53,13 @@ impl<P: Condition, S: NamedShape, const N: usize> NamedShape for OrZeros<P, S, N
     ghost whole = { whole_if S.shown S.whole };
 }
 
-impl<P: Condition, S: ShowShape<V>, V: Copy, const N: usize> ShowShape<Option<V>>
-    for OrZeros<P, S, N> {
+impl<P: Condition, S: ShowShape<V>, V, const N: usize> ShowShape<Option<V>> for OrZeros<P, S, N> {
     ghost content = { option_map S.content };
 
     fn show<K: FieldSink>(
-        names: S::Names,
+        names: &S::Names,
         view: View,
-        value: Option<V>,
+        value: &Option<V>,
         sink: &mut K,
     ) -> Result<()> {
         match value {

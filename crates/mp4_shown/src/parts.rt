@@ -25,17 +25,17 @@ impl<A: NamedShape, B: NamedShape> NamedShape for (A, B) {
         (A.whole names.0 view v.0) (B.whole names.1 view v.1) };
 }
 
-impl<A: ShowShape<V>, B: ShowShape<W>, V: Copy, W: Copy> ShowShape<(V, W)> for (A, B) {
+impl<A: ShowShape<V>, B: ShowShape<W>, V, W> ShowShape<(V, W)> for (A, B) {
     ghost content = { λ v. (A.content v.0, B.content v.1) };
 
     fn show<K: FieldSink>(
-        names: (A::Names, B::Names),
+        names: &(A::Names, B::Names),
         view: View,
-        value: (V, W),
+        value: &(V, W),
         sink: &mut K,
     ) -> Result<()> {
-        A::show(names.0, view, value.0, sink)?;
-        B::show(names.1, view, value.1, sink)
+        A::show(&names.0, view, &value.0, sink)?;
+        B::show(&names.1, view, &value.1, sink)
     }
 }
 
@@ -53,16 +53,16 @@ impl<S: NamedShape> NamedShape for Last<S> {
     ghost whole = { λ names view v. S.whole names.0 view v.0 };
 }
 
-impl<S: ShowShape<V>, V: Copy> ShowShape<(V, ())> for Last<S> {
+impl<S: ShowShape<V>, V> ShowShape<(V, ())> for Last<S> {
     ghost content = { λ v. (S.content v.0, tt) };
 
     fn show<K: FieldSink>(
-        names: (S::Names, ()),
+        names: &(S::Names, ()),
         view: View,
-        value: (V, ()),
+        value: &(V, ()),
         sink: &mut K,
     ) -> Result<()> {
-        S::show(names.0, view, value.0, sink)
+        S::show(&names.0, view, &value.0, sink)
     }
 }
 
@@ -80,10 +80,10 @@ impl<const N: usize, S: NamedShape> NamedShape for Reserved<N, S> {
     ghost whole = { S.whole };
 }
 
-impl<const N: usize, S: ShowShape<V>, V: Copy> ShowShape<V> for Reserved<N, S> {
+impl<const N: usize, S: ShowShape<V>, V> ShowShape<V> for Reserved<N, S> {
     ghost content = { S.content };
 
-    fn show<K: FieldSink>(names: S::Names, view: View, value: V, sink: &mut K) -> Result<()> {
+    fn show<K: FieldSink>(names: &S::Names, view: View, value: &V, sink: &mut K) -> Result<()> {
         S::show(names, view, value, sink)
     }
 }
@@ -103,10 +103,10 @@ impl<S: NamedShape> NamedShape for WithSize<S> {
     ghost whole = { S.whole };
 }
 
-impl<S: ShowShape<V>, V: Copy> ShowShape<V> for WithSize<S> {
+impl<S: ShowShape<V>, V> ShowShape<V> for WithSize<S> {
     ghost content = { S.content };
 
-    fn show<K: FieldSink>(names: S::Names, view: View, value: V, sink: &mut K) -> Result<()> {
+    fn show<K: FieldSink>(names: &S::Names, view: View, value: &V, sink: &mut K) -> Result<()> {
         S::show(names, view, value, sink)
     }
 }
@@ -130,19 +130,17 @@ impl<const N: usize, S: NamedShape> NamedShape for Full<N, S> {
         (S.whole names.1.1 view v.1.1) };
 }
 
-impl<const N: usize, S: ShowShape<V>, V: Copy> ShowShape<(u8, (u32, V))> for Full<N, S> {
+impl<const N: usize, S: ShowShape<V>, V> ShowShape<(u8, (u32, V))> for Full<N, S> {
     ghost content = { λ v. (v.0, (v.1.0, S.content v.1.1)) };
 
     fn show<K: FieldSink>(
-        names: Self::Names,
+        names: &Self::Names,
         view: View,
-        value: (u8, (u32, V)),
+        value: &(u8, (u32, V)),
         sink: &mut K,
     ) -> Result<()> {
-        let (version, (flags, rest)) = value;
-        let (version_name, (flags_name, rest_names)) = names;
-        put_number(version_name, u64::from(version), sink)?;
-        put_number(flags_name, u64::from(flags), sink)?;
-        S::show(rest_names, view, rest, sink)
+        put_number(names.0, u64::from(value.0), sink)?;
+        put_number(names.1.0, u64::from(value.1.0), sink)?;
+        S::show(&names.1.1, view, &value.1.1, sink)
     }
 }

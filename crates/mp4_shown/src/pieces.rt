@@ -138,14 +138,14 @@ impl<'a, P: Pieces> ShowShape<(P, (usize, &'a [u8]))> for PiecesOf<P> {
     ghost content = { λ v. (v.0, (v.1.0, v.1.1.now)) };
 
     fn show<K: FieldSink>(
-        names: (ListName, (BytesName, BytesName)),
+        names: &(ListName, (BytesName, BytesName)),
         view: View,
-        value: (P, (usize, &'a [u8])),
+        value: &(P, (usize, &'a [u8])),
         sink: &mut K,
     ) -> Result<()> {
-        let (pieces, (count, bytes)) = value;
+        let (pieces, (count, bytes)) = *value;
         match bytes_after(&pieces, count, bytes) {
-            Some(rest) => put_whole(names, view, &pieces, count, bytes, rest, sink),
+            Some(rest) => put_whole(*names, view, &pieces, count, bytes, rest, sink),
             None => put_bytes(names.1.0, view.rows, bytes, sink),
         }
     }

@@ -41,13 +41,13 @@ impl<'a, C: Count, const E: usize> ShowShape<&'a [[u8; E]]> for Rows<C, E> {
     ghost content = { λ rows. rows.now };
 
     fn show<K: FieldSink>(
-        name: ListName,
+        name: &ListName,
         view: View,
-        value: &'a [[u8; E]],
+        value: &&'a [[u8; E]],
         sink: &mut K,
     ) -> Result<()> {
-        begin(name, value.len(), sink)?;
-        put_each(first(value, view.rows), sink)?;
+        begin(*name, value.len(), sink)?;
+        put_each(first(*value, view.rows), sink)?;
         sink.end_list()
     }
 }

@@ -15,7 +15,7 @@ pub trait NamedShape {
     type Value;
 
     /// The type of the names, which is built like that of the values.
-    type Names: Copy;
+    type Names;
 
     /// The type of the names as a clause sees them in a constant.
     ghost Seen: { Type 0 };
@@ -36,20 +36,21 @@ pub trait ShowShape<V>: NamedShape {
     ghost content: { V → Self.Value };
 
     /// Hands the fields of `value` to a sink, under their names.
-    fn show<K: FieldSink>(names: Self::Names, view: View, value: V, sink: &mut K) -> Result<()>
+    fn show<K: FieldSink>(names: &Self::Names, view: View, value: &V, sink: &mut K) -> Result<()>
         ensures { OnOk result (Hands K.trace K.after sink.old
-            (Self.shown (Self.seen names) view (content value)) sink.new) };
+            (Self.shown (Self.seen names.now) view (content value.now)) sink.new) };
 }
 
 /// Hands the fields of `value` to a sink by `S::show`. Call it if several parts of a box are references: the borrow
 /// checker refuses their lifetimes beside the `'static` of names that a shape such as `Full` spells out.
-pub fn show_shape<S: ShowShape<V>, V: Copy, K: FieldSink>(
-    names: S::Names,
+pub fn show_shape<S: ShowShape<V>, V, K: FieldSink>(
+    names: &S::Names,
     view: View,
-    value: V,
+    value: &V,
     sink: &mut K,
 ) -> Result<()>
-    ensures { OnOk result (Hands K.trace K.after sink.old (S.shown (S.seen names) view (S.content value)) sink.new) }
+    ensures { OnOk result (Hands K.trace K.after sink.old
+        (S.shown (S.seen names.now) view (S.content value.now)) sink.new) }
 {
     S::show(names, view, value, sink)
 }

@@ -27,8 +27,8 @@ impl ShowShape<i8> for I8 {
     ghost content = { λ z. z };
 
     #[inline]
-    fn show<K: FieldSink>(name: NumberName, _view: View, value: i8, sink: &mut K) -> Result<()> {
-        put_signed(name, i64::from(value), sink)
+    fn show<K: FieldSink>(name: &NumberName, _view: View, value: &i8, sink: &mut K) -> Result<()> {
+        put_signed(*name, i64::from(*value), sink)
     }
 }
 
@@ -50,8 +50,8 @@ impl ShowShape<i16> for I16 {
     ghost content = { λ z. z };
 
     #[inline]
-    fn show<K: FieldSink>(name: NumberName, _view: View, value: i16, sink: &mut K) -> Result<()> {
-        put_signed(name, i64::from(value), sink)
+    fn show<K: FieldSink>(name: &NumberName, _view: View, value: &i16, sink: &mut K) -> Result<()> {
+        put_signed(*name, i64::from(*value), sink)
     }
 }
 
@@ -73,8 +73,8 @@ impl ShowShape<i32> for I32 {
     ghost content = { λ z. z };
 
     #[inline]
-    fn show<K: FieldSink>(name: NumberName, _view: View, value: i32, sink: &mut K) -> Result<()> {
-        put_signed(name, i64::from(value), sink)
+    fn show<K: FieldSink>(name: &NumberName, _view: View, value: &i32, sink: &mut K) -> Result<()> {
+        put_signed(*name, i64::from(*value), sink)
     }
 }
 
@@ -96,7 +96,7 @@ impl ShowShape<i64> for SignedTime {
     ghost content = { λ z. z };
 
     #[inline]
-    fn show<K: FieldSink>(name: NumberName, _view: View, value: i64, sink: &mut K) -> Result<()> {
-        put_signed(name, value, sink)
+    fn show<K: FieldSink>(name: &NumberName, _view: View, value: &i64, sink: &mut K) -> Result<()> {
+        put_signed(*name, *value, sink)
     }
 }

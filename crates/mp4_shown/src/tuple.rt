@@ -18,7 +18,7 @@ impl<A: NamedShape, B: NamedShape, C: NamedShape> NamedShape for (A, B, C) {
     ghost whole = { ⟦<(A, (B, C)) as NamedShape>⟧.whole };
 }
 
-impl<A, B, C, T: Copy, U: Copy, V: Copy> ShowShape<(T, (U, V))> for (A, B, C)
+impl<A, B, C, T, U, V> ShowShape<(T, (U, V))> for (A, B, C)
 where
     A: ShowShape<T>,
     B: ShowShape<U>,
@@ -27,9 +27,9 @@ where
     ghost content = { ⟦<(A, (B, C)) as ShowShape<(T, (U, V))>>⟧.content };
 
     fn show<K: FieldSink>(
-        names: Self::Names,
+        names: &Self::Names,
         view: View,
-        value: (T, (U, V)),
+        value: &(T, (U, V)),
         sink: &mut K,
     ) -> Result<()> {
         <(A, (B, C)) as ShowShape<(T, (U, V))>>::show(names, view, value, sink)
@@ -50,7 +50,7 @@ impl<A: NamedShape, B: NamedShape, C: NamedShape, D: NamedShape> NamedShape for 
     ghost whole = { ⟦<(A, (B, C, D)) as NamedShape>⟧.whole };
 }
 
-impl<A, B, C, D, T: Copy, U: Copy, V: Copy, W: Copy> ShowShape<(T, (U, (V, W)))> for (A, B, C, D)
+impl<A, B, C, D, T, U, V, W> ShowShape<(T, (U, (V, W)))> for (A, B, C, D)
 where
     A: ShowShape<T>,
     B: ShowShape<U>,
@@ -60,9 +60,9 @@ where
     ghost content = { ⟦<(A, (B, C, D)) as ShowShape<(T, (U, (V, W)))>>⟧.content };
 
     fn show<K: FieldSink>(
-        names: Self::Names,
+        names: &Self::Names,
         view: View,
-        value: (T, (U, (V, W))),
+        value: &(T, (U, (V, W))),
         sink: &mut K,
     ) -> Result<()> {
         <(A, (B, C, D)) as ShowShape<(T, (U, (V, W)))>>::show(names, view, value, sink)
@@ -90,8 +90,7 @@ where
     ghost whole = { ⟦<(A, (B, C, D, E)) as NamedShape>⟧.whole };
 }
 
-impl<A, B, C, D, E, T: Copy, U: Copy, V: Copy, W: Copy, X: Copy> ShowShape<(T, (U, (V, (W, X))))>
-    for (A, B, C, D, E)
+impl<A, B, C, D, E, T, U, V, W, X> ShowShape<(T, (U, (V, (W, X))))> for (A, B, C, D, E)
 where
     A: ShowShape<T>,
     B: ShowShape<U>,
@@ -102,9 +101,9 @@ where
     ghost content = { ⟦<(A, (B, C, D, E)) as ShowShape<(T, (U, (V, (W, X))))>>⟧.content };
 
     fn show<K: FieldSink>(
-        names: Self::Names,
+        names: &Self::Names,
         view: View,
-        value: (T, (U, (V, (W, X)))),
+        value: &(T, (U, (V, (W, X)))),
         sink: &mut K,
     ) -> Result<()> {
         <(A, (B, C, D, E)) as ShowShape<(T, (U, (V, (W, X))))>>::show(names, view, value, sink)

@@ -28,24 +28,23 @@ impl<K: Tag, S: NamedShape, T: NamedShape> NamedShape for Typed<K, S, T> {
         view v };
 }
 
-impl<K: Tag, S: ShowShape<V>, T: ShowShape<W>, V: Copy, W: Copy> ShowShape<OfType<V, W>>
-    for Typed<K, S, T> {
+impl<K: Tag, S: ShowShape<V>, T: ShowShape<W>, V, W> ShowShape<OfType<V, W>> for Typed<K, S, T> {
     ghost content = { map_type S.content T.content };
 
     fn show<L: FieldSink>(
-        names: (&'static str, (S::Names, T::Names)),
+        names: &(&'static str, (S::Names, T::Names)),
         view: View,
-        value: OfType<V, W>,
+        value: &OfType<V, W>,
         sink: &mut L,
     ) -> Result<()> {
         match value {
             OfType::Own(value) => {
                 sink.field(names.0, Value::Code(FourCC::from(K::TAG)))?;
-                S::show(names.1.0, view, value, sink)
+                S::show(&names.1.0, view, value, sink)
             }
             OfType::Other(tag, value) => {
-                sink.field(names.0, Value::Code(FourCC::from(tag)))?;
-                T::show(names.1.1, view, value, sink)
+                sink.field(names.0, Value::Code(FourCC::from(*tag)))?;
+                T::show(&names.1.1, view, value, sink)
             }
         }
     }
