@@ -409,7 +409,7 @@ class Walk:
             raise Unknown(f"{self.source.path}: no ShownEntry for {struct}")
         if "= { λ view unit. bytes_item" in impl[1]:
             return {"kind": "bytes"}
-        shape, names = re.search(r"⟦<(\w+) as NamedShape>⟧\.shown (\w+) view", impl[1]).groups()
+        shape, names = re.search(r"⟦<(\w+) as NamedShape>⟧\.shown (\w+)\.now view", impl[1]).groups()
         return self.fields(self.source.types[shape], self.source.constant(names))
 
     def condition(self, shape):
@@ -536,7 +536,7 @@ def box_in(source):
     else:
         shape, names = re.search(
             rf"impl HasFields for {name} \{{ ghost shown = "
-            r"\{ λ view b\. (?:shown_by )?⟦<(\w+) as NamedShape>⟧\.shown (\w+) view",
+            r"\{ λ view b\. (?:shown_by )?⟦<(\w+) as NamedShape>⟧\.shown (\w+)\.now view",
             source.text).groups()
         fields = walk.fields(source.types[shape], source.constant(names))
     alias = re.search(rf"pub type (\w+) = (?:Declared|Checked)<{name}>;", source.text)[1]

@@ -92,7 +92,7 @@ impl DeclaredBox for Padb {
 }
 
 /// The names of the fields.
-const NAMES: <PadbShape as NamedShape>::Names = names_of!(
+const NAMES: &<PadbShape as NamedShape>::Names = &names_of!(
     number!("version"),
     number!("flags", Flags(6)),
     number!("sample_count"),
@@ -100,13 +100,15 @@ const NAMES: <PadbShape as NamedShape>::Names = names_of!(
 );
 
 impl HasFields for Padb {
-    ghost shown = { λ view b. ⟦<PadbShape as NamedShape>⟧.shown NAMES view (⟦<Padb as DeclaredBox>⟧.layout.content b) };
+    ghost shown = { λ view b. ⟦<PadbShape as NamedShape>⟧.shown NAMES.now view
+        (⟦<Padb as DeclaredBox>⟧.layout.content b) };
 
-    ghost whole = { λ view b. ⟦<PadbShape as NamedShape>⟧.whole NAMES view (⟦<Padb as DeclaredBox>⟧.layout.content b) };
+    ghost whole = { λ view b. ⟦<PadbShape as NamedShape>⟧.whole NAMES.now view
+        (⟦<Padb as DeclaredBox>⟧.layout.content b) };
 
     fn show<K: FieldSink>(&self, view: View, sink: &mut K) -> mp4_shown::Result<()> {
         let parts = parts_of!(self => version, flags, sample_count, pads.as_slice());
-        PadbShape::show(NAMES, view, parts, sink)
+        PadbShape::show(NAMES, view, &parts, sink)
     }
 }
 

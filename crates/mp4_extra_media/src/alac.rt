@@ -121,7 +121,7 @@ const CONFIG: &[NumberName] = &[
 ];
 
 /// The names of the fields.
-const NAMES: <AlacShape as NamedShape>::Names = names_of!(
+const NAMES: &<AlacShape as NamedShape>::Names = &names_of!(
     VERSION,
     FLAGS,
     CONFIG,
@@ -129,13 +129,15 @@ const NAMES: <AlacShape as NamedShape>::Names = names_of!(
 );
 
 impl HasFields for Alac {
-    ghost shown = { λ view b. ⟦<AlacShape as NamedShape>⟧.shown NAMES view (⟦<Alac as DeclaredBox>⟧.layout.content b) };
+    ghost shown = { λ view b. ⟦<AlacShape as NamedShape>⟧.shown NAMES.now view
+        (⟦<Alac as DeclaredBox>⟧.layout.content b) };
 
-    ghost whole = { λ view b. ⟦<AlacShape as NamedShape>⟧.whole NAMES view (⟦<Alac as DeclaredBox>⟧.layout.content b) };
+    ghost whole = { λ view b. ⟦<AlacShape as NamedShape>⟧.whole NAMES.now view
+        (⟦<Alac as DeclaredBox>⟧.layout.content b) };
 
     fn show<K: FieldSink>(&self, view: View, sink: &mut K) -> mp4_shown::Result<()> {
         let parts = parts_of!(self => version, flags, config, channel_layout_info.as_slice());
-        AlacShape::show(NAMES, view, parts, sink)
+        AlacShape::show(NAMES, view, &parts, sink)
     }
 }
 

@@ -51,7 +51,7 @@ impl DeclaredBox for Auxc {
 }
 
 /// The names of the fields.
-const NAMES: <AuxcShape as NamedShape>::Names = names_of!(
+const NAMES: &<AuxcShape as NamedShape>::Names = &names_of!(
     VERSION,
     FLAGS,
     run!("aux_type", Text),
@@ -59,13 +59,15 @@ const NAMES: <AuxcShape as NamedShape>::Names = names_of!(
 );
 
 impl HasFields for Auxc {
-    ghost shown = { λ view b. ⟦<AuxcShape as NamedShape>⟧.shown NAMES view (⟦<Auxc as DeclaredBox>⟧.layout.content b) };
+    ghost shown = { λ view b. ⟦<AuxcShape as NamedShape>⟧.shown NAMES.now view
+        (⟦<Auxc as DeclaredBox>⟧.layout.content b) };
 
-    ghost whole = { λ view b. ⟦<AuxcShape as NamedShape>⟧.whole NAMES view (⟦<Auxc as DeclaredBox>⟧.layout.content b) };
+    ghost whole = { λ view b. ⟦<AuxcShape as NamedShape>⟧.whole NAMES.now view
+        (⟦<Auxc as DeclaredBox>⟧.layout.content b) };
 
     fn show<K: FieldSink>(&self, view: View, sink: &mut K) -> mp4_shown::Result<()> {
         let parts = parts_of!(self => version, flags, aux_type.as_slice(), aux_subtype.as_slice());
-        show_shape::<AuxcShape, _, K>(NAMES, view, parts, sink)
+        show_shape::<AuxcShape, _, K>(NAMES, view, &parts, sink)
     }
 }
 

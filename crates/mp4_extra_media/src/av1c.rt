@@ -151,16 +151,16 @@ const CONFIG_WITHOUT_DELAY: &[NumberName] = &[
 type Av1cShown = (NamedBy<Bits<Av1Config, 14, 4>>, Last<Rest>);
 
 /// The names of the fields.
-const NAMES: <Av1cShown as NamedShape>::Names = names_of!(
+const NAMES: &<Av1cShown as NamedShape>::Names = &names_of!(
     (CONFIG, CONFIG_WITHOUT_DELAY),
     run!("configOBUs", Bytes)
 );
 
 impl HasFields for Av1c {
-    ghost shown = { λ view b. ⟦<Av1cShown as NamedShape>⟧.shown NAMES view
+    ghost shown = { λ view b. ⟦<Av1cShown as NamedShape>⟧.shown NAMES.now view
         ((b.config.initial_presentation_delay_present, b.config), (b.config_obus, tt)) };
 
-    ghost whole = { λ view b. ⟦<Av1cShown as NamedShape>⟧.whole NAMES view
+    ghost whole = { λ view b. ⟦<Av1cShown as NamedShape>⟧.whole NAMES.now view
         ((b.config.initial_presentation_delay_present, b.config), (b.config_obus, tt)) };
 
     fn show<K: FieldSink>(&self, view: View, sink: &mut K) -> mp4_shown::Result<()> {
@@ -168,7 +168,7 @@ impl HasFields for Av1c {
         Av1cShown::show(
             NAMES,
             view,
-            (config, (self.config_obus.as_slice(), ())),
+            &(config, (self.config_obus.as_slice(), ())),
             sink,
         )
     }

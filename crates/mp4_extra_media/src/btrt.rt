@@ -49,20 +49,22 @@ impl DeclaredBox for Btrt {
 }
 
 /// The names of the fields.
-const NAMES: <BtrtShape as NamedShape>::Names = names_of!(
+const NAMES: &<BtrtShape as NamedShape>::Names = &names_of!(
     number!("bufferSizeDB"),
     number!("maxBitrate"),
     number!("avgBitrate")
 );
 
 impl HasFields for Btrt {
-    ghost shown = { λ view b. ⟦<BtrtShape as NamedShape>⟧.shown NAMES view (⟦<Btrt as DeclaredBox>⟧.layout.content b) };
+    ghost shown = { λ view b. ⟦<BtrtShape as NamedShape>⟧.shown NAMES.now view
+        (⟦<Btrt as DeclaredBox>⟧.layout.content b) };
 
-    ghost whole = { λ view b. ⟦<BtrtShape as NamedShape>⟧.whole NAMES view (⟦<Btrt as DeclaredBox>⟧.layout.content b) };
+    ghost whole = { λ view b. ⟦<BtrtShape as NamedShape>⟧.whole NAMES.now view
+        (⟦<Btrt as DeclaredBox>⟧.layout.content b) };
 
     fn show<K: FieldSink>(&self, view: View, sink: &mut K) -> mp4_shown::Result<()> {
         let parts = parts_of!(self => buffer_size_db, max_bitrate, avg_bitrate);
-        BtrtShape::show(NAMES, view, parts, sink)
+        BtrtShape::show(NAMES, view, &parts, sink)
     }
 }
 

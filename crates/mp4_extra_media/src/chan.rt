@@ -195,7 +195,7 @@ const CHANNEL: &[NumberName] = &[
 ];
 
 /// The names of the fields.
-const NAMES: <ChanShape as NamedShape>::Names = names_of!(
+const NAMES: &<ChanShape as NamedShape>::Names = &names_of!(
     VERSION,
     FLAGS,
     number!("mChannelLayoutTag", Named, LAYOUTS),
@@ -217,26 +217,26 @@ type ChanNames = <ChanShape as NamedShape>::Names;
 /// the names of all layouts and channels.
 #[tactic(auto, unfolding(crate::specs::ShownChannels::shown_by))]
 fn show_by<K: FieldSink>(
-    names: ChanNames,
+    names: &ChanNames,
     view: View,
     chan: &Chan,
     sink: &mut K,
 ) -> mp4_shown::Result<()>
     ensures { OnOk result (Hands K.trace K.after sink.old (shown_by ⟦<ChanShape as NamedShape>⟧.shown
-        (⟦<ChanShape as NamedShape>⟧.seen names.entry) view (⟦<Chan as DeclaredBox>⟧.layout.content chan.now))
+        (⟦<ChanShape as NamedShape>⟧.seen names.now) view (⟦<Chan as DeclaredBox>⟧.layout.content chan.now))
         sink.new) }
 {
     let parts = parts_of!(chan => version, flags, channel_layout_tag, channel_bitmap,
         channel_descriptions.as_slice());
-    ChanShape::show(names, view, parts, sink)
+    ChanShape::show(names, view, &parts, sink)
 }
 
 impl HasFields for Chan {
-    ghost shown = { λ view b. shown_by ⟦<ChanShape as NamedShape>⟧.shown NAMES view
+    ghost shown = { λ view b. shown_by ⟦<ChanShape as NamedShape>⟧.shown NAMES.now view
         (⟦<Chan as DeclaredBox>⟧.layout.content b) };
 
-    ghost whole = { λ view b. whole_by ⟦<ChanShape as NamedShape>⟧.shown ⟦<ChanShape as NamedShape>⟧.whole NAMES view
-        (⟦<Chan as DeclaredBox>⟧.layout.content b) };
+    ghost whole = { λ view b. whole_by ⟦<ChanShape as NamedShape>⟧.shown ⟦<ChanShape as NamedShape>⟧.whole NAMES.now
+        view (⟦<Chan as DeclaredBox>⟧.layout.content b) };
 
     fn show<K: FieldSink>(&self, view: View, sink: &mut K) -> mp4_shown::Result<()> {
         show_by(NAMES, view, self, sink)

@@ -124,7 +124,7 @@ const STRUCTURE: &[NumberName] = &[
 ];
 
 /// The names of the fields.
-const NAMES: <ChnlShape as NamedShape>::Names = names_of!(
+const NAMES: &<ChnlShape as NamedShape>::Names = &names_of!(
     VERSION,
     FLAGS,
     number!("stream_structure", Named, STRUCTURES),
@@ -133,14 +133,16 @@ const NAMES: <ChnlShape as NamedShape>::Names = names_of!(
 );
 
 impl HasFields for Chnl {
-    ghost shown = { λ view b. ⟦<ChnlShape as NamedShape>⟧.shown NAMES view (⟦<Chnl as DeclaredBox>⟧.layout.content b) };
+    ghost shown = { λ view b. ⟦<ChnlShape as NamedShape>⟧.shown NAMES.now view
+        (⟦<Chnl as DeclaredBox>⟧.layout.content b) };
 
-    ghost whole = { λ view b. ⟦<ChnlShape as NamedShape>⟧.whole NAMES view (⟦<Chnl as DeclaredBox>⟧.layout.content b) };
+    ghost whole = { λ view b. ⟦<ChnlShape as NamedShape>⟧.whole NAMES.now view
+        (⟦<Chnl as DeclaredBox>⟧.layout.content b) };
 
     fn show<K: FieldSink>(&self, view: View, sink: &mut K) -> mp4_shown::Result<()> {
         let parts =
             parts_of!(self => version, flags, stream_structure, structure, layout.as_slice());
-        ChnlShape::show(NAMES, view, parts, sink)
+        ChnlShape::show(NAMES, view, &parts, sink)
     }
 }
 

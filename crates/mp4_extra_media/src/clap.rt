@@ -64,7 +64,7 @@ impl DeclaredBox for Clap {
 }
 
 /// The names of the fields.
-const NAMES: <ClapShape as NamedShape>::Names = names_of!(
+const NAMES: &<ClapShape as NamedShape>::Names = &names_of!(
     number!("cleanApertureWidthN"),
     number!("cleanApertureWidthD"),
     number!("cleanApertureHeightN"),
@@ -76,15 +76,17 @@ const NAMES: <ClapShape as NamedShape>::Names = names_of!(
 );
 
 impl HasFields for Clap {
-    ghost shown = { λ view b. ⟦<ClapShape as NamedShape>⟧.shown NAMES view (⟦<Clap as DeclaredBox>⟧.layout.content b) };
+    ghost shown = { λ view b. ⟦<ClapShape as NamedShape>⟧.shown NAMES.now view
+        (⟦<Clap as DeclaredBox>⟧.layout.content b) };
 
-    ghost whole = { λ view b. ⟦<ClapShape as NamedShape>⟧.whole NAMES view (⟦<Clap as DeclaredBox>⟧.layout.content b) };
+    ghost whole = { λ view b. ⟦<ClapShape as NamedShape>⟧.whole NAMES.now view
+        (⟦<Clap as DeclaredBox>⟧.layout.content b) };
 
     fn show<K: FieldSink>(&self, view: View, sink: &mut K) -> mp4_shown::Result<()> {
         let parts = parts_of!(self => clean_aperture_width_n, clean_aperture_width_d,
             clean_aperture_height_n, clean_aperture_height_d, horiz_off_n, horiz_off_d, vert_off_n,
             vert_off_d);
-        ClapShape::show(NAMES, view, parts, sink)
+        ClapShape::show(NAMES, view, &parts, sink)
     }
 }
 

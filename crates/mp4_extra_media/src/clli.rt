@@ -45,19 +45,21 @@ impl DeclaredBox for Clli {
 }
 
 /// The names of the fields.
-const NAMES: <ClliShape as NamedShape>::Names = names_of!(
+const NAMES: &<ClliShape as NamedShape>::Names = &names_of!(
     number!("max_content_light_level"),
     number!("max_pic_average_light_level")
 );
 
 impl HasFields for Clli {
-    ghost shown = { λ view b. ⟦<ClliShape as NamedShape>⟧.shown NAMES view (⟦<Clli as DeclaredBox>⟧.layout.content b) };
+    ghost shown = { λ view b. ⟦<ClliShape as NamedShape>⟧.shown NAMES.now view
+        (⟦<Clli as DeclaredBox>⟧.layout.content b) };
 
-    ghost whole = { λ view b. ⟦<ClliShape as NamedShape>⟧.whole NAMES view (⟦<Clli as DeclaredBox>⟧.layout.content b) };
+    ghost whole = { λ view b. ⟦<ClliShape as NamedShape>⟧.whole NAMES.now view
+        (⟦<Clli as DeclaredBox>⟧.layout.content b) };
 
     fn show<K: FieldSink>(&self, view: View, sink: &mut K) -> mp4_shown::Result<()> {
         let parts = parts_of!(self => max_content_light_level, max_pic_average_light_level);
-        ClliShape::show(NAMES, view, parts, sink)
+        ClliShape::show(NAMES, view, &parts, sink)
     }
 }
 

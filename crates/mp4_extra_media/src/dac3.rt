@@ -100,15 +100,17 @@ const CONFIG: &[NumberName] = &[
 ];
 
 /// The names of the fields.
-const NAMES: <Dac3Shape as NamedShape>::Names = names_of!(CONFIG);
+const NAMES: &<Dac3Shape as NamedShape>::Names = &names_of!(CONFIG);
 
 impl HasFields for Dac3 {
-    ghost shown = { λ view b. ⟦<Dac3Shape as NamedShape>⟧.shown NAMES view (⟦<Dac3 as DeclaredBox>⟧.layout.content b) };
+    ghost shown = { λ view b. ⟦<Dac3Shape as NamedShape>⟧.shown NAMES.now view
+        (⟦<Dac3 as DeclaredBox>⟧.layout.content b) };
 
-    ghost whole = { λ view b. ⟦<Dac3Shape as NamedShape>⟧.whole NAMES view (⟦<Dac3 as DeclaredBox>⟧.layout.content b) };
+    ghost whole = { λ view b. ⟦<Dac3Shape as NamedShape>⟧.whole NAMES.now view
+        (⟦<Dac3 as DeclaredBox>⟧.layout.content b) };
 
     fn show<K: FieldSink>(&self, view: View, sink: &mut K) -> mp4_shown::Result<()> {
-        Dac3Shape::show(NAMES, view, parts_of!(self => config), sink)
+        Dac3Shape::show(NAMES, view, &parts_of!(self => config), sink)
     }
 }
 

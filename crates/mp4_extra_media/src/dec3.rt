@@ -210,7 +210,7 @@ impl Pieces for Streams {
 type Dec3Shown = (Bits<Ec3Config, 2, 2>, PiecesOf<Streams>);
 
 /// The names of the fields.
-const NAMES: <Dec3Shown as NamedShape>::Names = (
+const NAMES: &<Dec3Shown as NamedShape>::Names = &(
     CONFIG,
     (
         list!("substreams"),
@@ -219,16 +219,16 @@ const NAMES: <Dec3Shown as NamedShape>::Names = (
 );
 
 impl HasFields for Dec3 {
-    ghost shown = { λ view b. ⟦<Dec3Shown as NamedShape>⟧.shown NAMES view
+    ghost shown = { λ view b. ⟦<Dec3Shown as NamedShape>⟧.shown NAMES.now view
         (b.config, (record {}, (b.config.num_ind_sub + 1, b.substreams))) };
 
-    ghost whole = { λ view b. ⟦<Dec3Shown as NamedShape>⟧.whole NAMES view
+    ghost whole = { λ view b. ⟦<Dec3Shown as NamedShape>⟧.whole NAMES.now view
         (b.config, (record {}, (b.config.num_ind_sub + 1, b.substreams))) };
 
     fn show<K: FieldSink>(&self, view: View, sink: &mut K) -> mp4_shown::Result<()> {
         let count = usize::from(self.config.num_ind_sub) + 1;
         let parts = (self.config, (Streams, (count, self.substreams.as_slice())));
-        Dec3Shown::show(NAMES, view, parts, sink)
+        Dec3Shown::show(NAMES, view, &parts, sink)
     }
 }
 

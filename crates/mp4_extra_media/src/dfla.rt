@@ -200,13 +200,13 @@ impl<'a> ShowShape<(u8, &'a [u8])> for BlockData {
     ghost content = { λ v. (v.0, v.1.now) };
 
     fn show<K: FieldSink>(
-        names: Self::Names,
+        names: &Self::Names,
         view: View,
-        value: (u8, &'a [u8]),
+        value: &(u8, &'a [u8]),
         sink: &mut K,
     ) -> mp4_shown::Result<()> {
         put_number(names.0, value.1.len() as u64, sink)?;
-        put_data(names, view.rows, value.0, value.1, sink)
+        put_data(*names, view.rows, value.0, value.1, sink)
     }
 }
 
@@ -232,7 +232,7 @@ const STREAM: &[NumberName] = &[
 ];
 
 /// The names of the fields of a block.
-const BLOCK: <BlockShown as NamedShape>::Names = (
+const BLOCK: &<BlockShown as NamedShape>::Names = &(
     KIND,
     (
         number!("Length"),
@@ -241,17 +241,17 @@ const BLOCK: <BlockShown as NamedShape>::Names = (
 );
 
 impl ShownEntry for FlacMetadataBlock {
-    ghost shown = { λ view x. entry_of (⟦<BlockShown as NamedShape>⟧.shown BLOCK view
+    ghost shown = { λ view x. entry_of (⟦<BlockShown as NamedShape>⟧.shown BLOCK.now view
         (x.kind, (x.kind.block_type, x.block_data))) };
 
-    ghost whole = { λ view x. whole_entry (⟦<BlockShown as NamedShape>⟧.shown BLOCK view
+    ghost whole = { λ view x. whole_entry (⟦<BlockShown as NamedShape>⟧.shown BLOCK.now view
         (x.kind, (x.kind.block_type, x.block_data)))
-        (⟦<BlockShown as NamedShape>⟧.whole BLOCK view (x.kind, (x.kind.block_type, x.block_data))) };
+        (⟦<BlockShown as NamedShape>⟧.whole BLOCK.now view (x.kind, (x.kind.block_type, x.block_data))) };
 
     fn show<K: FieldSink>(&self, view: View, sink: &mut K) -> mp4_shown::Result<()> {
         let data = (self.kind.block_type, self.block_data.as_slice());
         sink.begin_entry()?;
-        BlockShown::show(BLOCK, view, (self.kind, data), sink)?;
+        BlockShown::show(BLOCK, view, &(self.kind, data), sink)?;
         sink.end_entry()
     }
 }
@@ -306,16 +306,22 @@ impl DeclaredBox for Dfla {
 }
 
 /// The names of the fields.
-const NAMES: <DflaShape as NamedShape>::Names = names_of!(VERSION, FLAGS, list!("metadata_blocks"));
+const NAMES: &<DflaShape as NamedShape>::Names = &names_of!(
+    VERSION,
+    FLAGS,
+    list!("metadata_blocks")
+);
 
 impl HasFields for Dfla {
-    ghost shown = { λ view b. ⟦<DflaShape as NamedShape>⟧.shown NAMES view (⟦<Dfla as DeclaredBox>⟧.layout.content b) };
+    ghost shown = { λ view b. ⟦<DflaShape as NamedShape>⟧.shown NAMES.now view
+        (⟦<Dfla as DeclaredBox>⟧.layout.content b) };
 
-    ghost whole = { λ view b. ⟦<DflaShape as NamedShape>⟧.whole NAMES view (⟦<Dfla as DeclaredBox>⟧.layout.content b) };
+    ghost whole = { λ view b. ⟦<DflaShape as NamedShape>⟧.whole NAMES.now view
+        (⟦<Dfla as DeclaredBox>⟧.layout.content b) };
 
     fn show<K: FieldSink>(&self, view: View, sink: &mut K) -> mp4_shown::Result<()> {
         let parts = parts_of!(self => version, flags, metadata_blocks.as_slice());
-        DflaShape::show(NAMES, view, parts, sink)
+        DflaShape::show(NAMES, view, &parts, sink)
     }
 }
 

@@ -93,12 +93,13 @@ impl<'a> ShowShape<&'a [u8]> for ChannelMapping {
     ghost content = { λ bytes. bytes.now };
 
     fn show<K: FieldSink>(
-        names: (NumberName, (NumberName, (BytesName, BytesName))),
+        names: &(NumberName, (NumberName, (BytesName, BytesName))),
         view: View,
-        value: &'a [u8],
+        value: &&'a [u8],
         sink: &mut K,
     ) -> mp4_shown::Result<()> {
-        let (streams, (coupled, (channels, too_few))) = names;
+        let (streams, (coupled, (channels, too_few))) = *names;
+        let value = *value;
         if value.len() < 2 {
             return put_bytes(too_few, view.rows, value, sink);
         }
@@ -112,7 +113,7 @@ impl<'a> ShowShape<&'a [u8]> for ChannelMapping {
 type DopsShown = (U8, U8, U16, U32, (I16, U8, Last<ChannelMapping>));
 
 /// The names of the fields. The gain is in decibels.
-const NAMES: <DopsShown as NamedShape>::Names = names_of!(
+const NAMES: &<DopsShown as NamedShape>::Names = &names_of!(
     number!("Version"),
     number!("OutputChannelCount"),
     number!("PreSkip"),
@@ -129,14 +130,16 @@ const NAMES: <DopsShown as NamedShape>::Names = names_of!(
 );
 
 impl HasFields for Dops {
-    ghost shown = { λ view b. ⟦<DopsShown as NamedShape>⟧.shown NAMES view (⟦<Dops as DeclaredBox>⟧.layout.content b) };
+    ghost shown = { λ view b. ⟦<DopsShown as NamedShape>⟧.shown NAMES.now view
+        (⟦<Dops as DeclaredBox>⟧.layout.content b) };
 
-    ghost whole = { λ view b. ⟦<DopsShown as NamedShape>⟧.whole NAMES view (⟦<Dops as DeclaredBox>⟧.layout.content b) };
+    ghost whole = { λ view b. ⟦<DopsShown as NamedShape>⟧.whole NAMES.now view
+        (⟦<Dops as DeclaredBox>⟧.layout.content b) };
 
     fn show<K: FieldSink>(&self, view: View, sink: &mut K) -> mp4_shown::Result<()> {
         let parts = parts_of!(self => version, output_channel_count, pre_skip, input_sample_rate,
             output_gain, channel_mapping_family, channel_mapping.as_slice());
-        DopsShown::show(NAMES, view, parts, sink)
+        DopsShown::show(NAMES, view, &parts, sink)
     }
 }
 

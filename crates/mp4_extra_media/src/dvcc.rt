@@ -120,16 +120,18 @@ pub const CONFIG: &[NumberName] = &[
 ];
 
 /// The names of the fields.
-const NAMES: <DvccShape as NamedShape>::Names = names_of!(CONFIG);
+const NAMES: &<DvccShape as NamedShape>::Names = &names_of!(CONFIG);
 
 impl HasFields for Dvcc {
-    ghost shown = { λ view b. ⟦<DvccShape as NamedShape>⟧.shown NAMES view (⟦<Dvcc as DeclaredBox>⟧.layout.content b) };
+    ghost shown = { λ view b. ⟦<DvccShape as NamedShape>⟧.shown NAMES.now view
+        (⟦<Dvcc as DeclaredBox>⟧.layout.content b) };
 
-    ghost whole = { λ view b. ⟦<DvccShape as NamedShape>⟧.whole NAMES view (⟦<Dvcc as DeclaredBox>⟧.layout.content b) };
+    ghost whole = { λ view b. ⟦<DvccShape as NamedShape>⟧.whole NAMES.now view
+        (⟦<Dvcc as DeclaredBox>⟧.layout.content b) };
 
     fn show<K: FieldSink>(&self, view: View, sink: &mut K) -> mp4_shown::Result<()> {
         let parts = parts_of!(self => config);
-        DvccShape::show(NAMES, view, parts, sink)
+        DvccShape::show(NAMES, view, &parts, sink)
     }
 }
 

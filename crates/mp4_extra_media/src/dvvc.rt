@@ -46,16 +46,18 @@ impl DeclaredBox for Dvvc {
 }
 
 /// The names of the fields.
-const NAMES: <DvvcShape as NamedShape>::Names = names_of!(CONFIG);
+const NAMES: &<DvvcShape as NamedShape>::Names = &names_of!(CONFIG);
 
 impl HasFields for Dvvc {
-    ghost shown = { λ view b. ⟦<DvvcShape as NamedShape>⟧.shown NAMES view (⟦<Dvvc as DeclaredBox>⟧.layout.content b) };
+    ghost shown = { λ view b. ⟦<DvvcShape as NamedShape>⟧.shown NAMES.now view
+        (⟦<Dvvc as DeclaredBox>⟧.layout.content b) };
 
-    ghost whole = { λ view b. ⟦<DvvcShape as NamedShape>⟧.whole NAMES view (⟦<Dvvc as DeclaredBox>⟧.layout.content b) };
+    ghost whole = { λ view b. ⟦<DvvcShape as NamedShape>⟧.whole NAMES.now view
+        (⟦<Dvvc as DeclaredBox>⟧.layout.content b) };
 
     fn show<K: FieldSink>(&self, view: View, sink: &mut K) -> mp4_shown::Result<()> {
         let parts = parts_of!(self => config);
-        DvvcShape::show(NAMES, view, parts, sink)
+        DvvcShape::show(NAMES, view, &parts, sink)
     }
 }
 

@@ -46,20 +46,22 @@ impl DeclaredBox for Enda {
 const ENDIANNESS: &[Meaning] = &[(0, "big-endian"), (1, "little-endian")];
 
 /// The names of the fields.
-const NAMES: <EndaShape as NamedShape>::Names = names_of!(number!(
+const NAMES: &<EndaShape as NamedShape>::Names = &names_of!(number!(
     "littleEndian",
     Named,
     ENDIANNESS
 ));
 
 impl HasFields for Enda {
-    ghost shown = { λ view b. ⟦<EndaShape as NamedShape>⟧.shown NAMES view (⟦<Enda as DeclaredBox>⟧.layout.content b) };
+    ghost shown = { λ view b. ⟦<EndaShape as NamedShape>⟧.shown NAMES.now view
+        (⟦<Enda as DeclaredBox>⟧.layout.content b) };
 
-    ghost whole = { λ view b. ⟦<EndaShape as NamedShape>⟧.whole NAMES view (⟦<Enda as DeclaredBox>⟧.layout.content b) };
+    ghost whole = { λ view b. ⟦<EndaShape as NamedShape>⟧.whole NAMES.now view
+        (⟦<Enda as DeclaredBox>⟧.layout.content b) };
 
     fn show<K: FieldSink>(&self, view: View, sink: &mut K) -> mp4_shown::Result<()> {
         let parts = parts_of!(self => little_endian);
-        EndaShape::show(NAMES, view, parts, sink)
+        EndaShape::show(NAMES, view, &parts, sink)
     }
 }
 

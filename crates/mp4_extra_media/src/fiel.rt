@@ -58,19 +58,21 @@ const ORDERS: &[Meaning] = &[
 ];
 
 /// The names of the fields.
-const NAMES: <FielShape as NamedShape>::Names = names_of!(
+const NAMES: &<FielShape as NamedShape>::Names = &names_of!(
     number!("fields", Named, FIELDS),
     number!("detail", Named, ORDERS)
 );
 
 impl HasFields for Fiel {
-    ghost shown = { λ view b. ⟦<FielShape as NamedShape>⟧.shown NAMES view (⟦<Fiel as DeclaredBox>⟧.layout.content b) };
+    ghost shown = { λ view b. ⟦<FielShape as NamedShape>⟧.shown NAMES.now view
+        (⟦<Fiel as DeclaredBox>⟧.layout.content b) };
 
-    ghost whole = { λ view b. ⟦<FielShape as NamedShape>⟧.whole NAMES view (⟦<Fiel as DeclaredBox>⟧.layout.content b) };
+    ghost whole = { λ view b. ⟦<FielShape as NamedShape>⟧.whole NAMES.now view
+        (⟦<Fiel as DeclaredBox>⟧.layout.content b) };
 
     fn show<K: FieldSink>(&self, view: View, sink: &mut K) -> mp4_shown::Result<()> {
         let parts = parts_of!(self => fields, detail);
-        FielShape::show(NAMES, view, parts, sink)
+        FielShape::show(NAMES, view, &parts, sink)
     }
 }
 

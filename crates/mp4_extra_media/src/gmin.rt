@@ -98,7 +98,7 @@ const GRAPHICS: &[NumberName] = &[
 ];
 
 /// The names of the fields.
-const NAMES: <GminShape as NamedShape>::Names = names_of!(
+const NAMES: &<GminShape as NamedShape>::Names = &names_of!(
     VERSION,
     FLAGS,
     GRAPHICS,
@@ -106,13 +106,15 @@ const NAMES: <GminShape as NamedShape>::Names = names_of!(
 );
 
 impl HasFields for Gmin {
-    ghost shown = { λ view b. ⟦<GminShape as NamedShape>⟧.shown NAMES view (⟦<Gmin as DeclaredBox>⟧.layout.content b) };
+    ghost shown = { λ view b. ⟦<GminShape as NamedShape>⟧.shown NAMES.now view
+        (⟦<Gmin as DeclaredBox>⟧.layout.content b) };
 
-    ghost whole = { λ view b. ⟦<GminShape as NamedShape>⟧.whole NAMES view (⟦<Gmin as DeclaredBox>⟧.layout.content b) };
+    ghost whole = { λ view b. ⟦<GminShape as NamedShape>⟧.whole NAMES.now view
+        (⟦<Gmin as DeclaredBox>⟧.layout.content b) };
 
     fn show<K: FieldSink>(&self, view: View, sink: &mut K) -> mp4_shown::Result<()> {
         let parts = parts_of!(self => version, flags, graphics, balance);
-        GminShape::show(NAMES, view, parts, sink)
+        GminShape::show(NAMES, view, &parts, sink)
     }
 }
 

@@ -298,22 +298,22 @@ const KIND: &[NumberName] = &[
 ];
 
 /// The names of the fields of an array.
-const ARRAY: <HevcArrayShape as NamedShape>::Names = names_of!(KIND, list!("nalUnit"));
+const ARRAY: &<HevcArrayShape as NamedShape>::Names = &names_of!(KIND, list!("nalUnit"));
 
 impl ShownEntry for HevcArray {
-    ghost shown = { λ view a. entry_of (⟦<HevcArrayShape as NamedShape>⟧.shown ARRAY view
+    ghost shown = { λ view a. entry_of (⟦<HevcArrayShape as NamedShape>⟧.shown ARRAY.now view
         (⟦<HevcArray as DeclaredEntry>⟧.layout.content a)) };
 
-    ghost whole = { λ view a. whole_entry (⟦<HevcArrayShape as NamedShape>⟧.shown ARRAY view
+    ghost whole = { λ view a. whole_entry (⟦<HevcArrayShape as NamedShape>⟧.shown ARRAY.now view
         (⟦<HevcArray as DeclaredEntry>⟧.layout.content a))
-        (⟦<HevcArrayShape as NamedShape>⟧.whole ARRAY view (⟦<HevcArray as DeclaredEntry>⟧.layout.content a)) };
+        (⟦<HevcArrayShape as NamedShape>⟧.whole ARRAY.now view (⟦<HevcArray as DeclaredEntry>⟧.layout.content a)) };
 
     fn show<K: FieldSink>(&self, view: View, sink: &mut K) -> mp4_shown::Result<()> {
         sink.begin_entry()?;
         HevcArrayShape::show(
             ARRAY,
             view,
-            parts_of!(self => kind, nal_units.as_slice()),
+            &parts_of!(self => kind, nal_units.as_slice()),
             sink,
         )?;
         sink.end_entry()
@@ -404,7 +404,7 @@ const RATE: &[NumberName] = &[
 ];
 
 /// The names of the fields.
-const NAMES: <HvccShape as NamedShape>::Names = names_of!(
+const NAMES: &<HvccShape as NamedShape>::Names = &names_of!(
     number!("configurationVersion"),
     PROFILE,
     FORMAT,
@@ -414,14 +414,16 @@ const NAMES: <HvccShape as NamedShape>::Names = names_of!(
 );
 
 impl HasFields for Hvcc {
-    ghost shown = { λ view b. ⟦<HvccShape as NamedShape>⟧.shown NAMES view (⟦<Hvcc as DeclaredBox>⟧.layout.content b) };
+    ghost shown = { λ view b. ⟦<HvccShape as NamedShape>⟧.shown NAMES.now view
+        (⟦<Hvcc as DeclaredBox>⟧.layout.content b) };
 
-    ghost whole = { λ view b. ⟦<HvccShape as NamedShape>⟧.whole NAMES view (⟦<Hvcc as DeclaredBox>⟧.layout.content b) };
+    ghost whole = { λ view b. ⟦<HvccShape as NamedShape>⟧.whole NAMES.now view
+        (⟦<Hvcc as DeclaredBox>⟧.layout.content b) };
 
     fn show<K: FieldSink>(&self, view: View, sink: &mut K) -> mp4_shown::Result<()> {
         let parts = parts_of!(self => configuration_version, profile, format, avg_frame_rate, rate,
             arrays.as_slice());
-        HvccShape::show(NAMES, view, parts, sink)
+        HvccShape::show(NAMES, view, &parts, sink)
     }
 }
 

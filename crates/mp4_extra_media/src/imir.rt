@@ -79,16 +79,18 @@ impl DeclaredBox for Imir {
 const MIRROR: &[NumberName] = &[number!("reserved", Reserved(0)), number!("axis")];
 
 /// The names of the fields.
-const NAMES: <ImirShape as NamedShape>::Names = names_of!(MIRROR);
+const NAMES: &<ImirShape as NamedShape>::Names = &names_of!(MIRROR);
 
 impl HasFields for Imir {
-    ghost shown = { λ view b. ⟦<ImirShape as NamedShape>⟧.shown NAMES view (⟦<Imir as DeclaredBox>⟧.layout.content b) };
+    ghost shown = { λ view b. ⟦<ImirShape as NamedShape>⟧.shown NAMES.now view
+        (⟦<Imir as DeclaredBox>⟧.layout.content b) };
 
-    ghost whole = { λ view b. ⟦<ImirShape as NamedShape>⟧.whole NAMES view (⟦<Imir as DeclaredBox>⟧.layout.content b) };
+    ghost whole = { λ view b. ⟦<ImirShape as NamedShape>⟧.whole NAMES.now view
+        (⟦<Imir as DeclaredBox>⟧.layout.content b) };
 
     fn show<K: FieldSink>(&self, view: View, sink: &mut K) -> mp4_shown::Result<()> {
         let parts = parts_of!(self => mirror);
-        ImirShape::show(NAMES, view, parts, sink)
+        ImirShape::show(NAMES, view, &parts, sink)
     }
 }
 

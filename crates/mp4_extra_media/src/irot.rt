@@ -92,16 +92,18 @@ const ROTATION: &[NumberName] = &[
 ];
 
 /// The names of the fields.
-const NAMES: <IrotShape as NamedShape>::Names = names_of!(ROTATION);
+const NAMES: &<IrotShape as NamedShape>::Names = &names_of!(ROTATION);
 
 impl HasFields for Irot {
-    ghost shown = { λ view b. ⟦<IrotShape as NamedShape>⟧.shown NAMES view (⟦<Irot as DeclaredBox>⟧.layout.content b) };
+    ghost shown = { λ view b. ⟦<IrotShape as NamedShape>⟧.shown NAMES.now view
+        (⟦<Irot as DeclaredBox>⟧.layout.content b) };
 
-    ghost whole = { λ view b. ⟦<IrotShape as NamedShape>⟧.whole NAMES view (⟦<Irot as DeclaredBox>⟧.layout.content b) };
+    ghost whole = { λ view b. ⟦<IrotShape as NamedShape>⟧.whole NAMES.now view
+        (⟦<Irot as DeclaredBox>⟧.layout.content b) };
 
     fn show<K: FieldSink>(&self, view: View, sink: &mut K) -> mp4_shown::Result<()> {
         let parts = parts_of!(self => rotation);
-        IrotShape::show(NAMES, view, parts, sink)
+        IrotShape::show(NAMES, view, &parts, sink)
     }
 }
 

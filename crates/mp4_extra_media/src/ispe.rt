@@ -51,7 +51,7 @@ impl DeclaredBox for Ispe {
 }
 
 /// The names of the fields.
-const NAMES: <IspeShape as NamedShape>::Names = names_of!(
+const NAMES: &<IspeShape as NamedShape>::Names = &names_of!(
     VERSION,
     FLAGS,
     number!("image_width"),
@@ -59,13 +59,15 @@ const NAMES: <IspeShape as NamedShape>::Names = names_of!(
 );
 
 impl HasFields for Ispe {
-    ghost shown = { λ view b. ⟦<IspeShape as NamedShape>⟧.shown NAMES view (⟦<Ispe as DeclaredBox>⟧.layout.content b) };
+    ghost shown = { λ view b. ⟦<IspeShape as NamedShape>⟧.shown NAMES.now view
+        (⟦<Ispe as DeclaredBox>⟧.layout.content b) };
 
-    ghost whole = { λ view b. ⟦<IspeShape as NamedShape>⟧.whole NAMES view (⟦<Ispe as DeclaredBox>⟧.layout.content b) };
+    ghost whole = { λ view b. ⟦<IspeShape as NamedShape>⟧.whole NAMES.now view
+        (⟦<Ispe as DeclaredBox>⟧.layout.content b) };
 
     fn show<K: FieldSink>(&self, view: View, sink: &mut K) -> mp4_shown::Result<()> {
         let parts = parts_of!(self => version, flags, image_width, image_height);
-        IspeShape::show(NAMES, view, parts, sink)
+        IspeShape::show(NAMES, view, &parts, sink)
     }
 }
 

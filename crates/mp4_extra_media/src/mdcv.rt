@@ -119,7 +119,7 @@ const RED: &[NumberName] = &[
 const WHITE: &[NumberName] = &[number!("white_point_x"), number!("white_point_y")];
 
 /// The names of the fields.
-const NAMES: <MdcvShape as NamedShape>::Names = names_of!(
+const NAMES: &<MdcvShape as NamedShape>::Names = &names_of!(
     GREEN,
     BLUE,
     RED,
@@ -129,15 +129,17 @@ const NAMES: <MdcvShape as NamedShape>::Names = names_of!(
 );
 
 impl HasFields for Mdcv {
-    ghost shown = { λ view b. ⟦<MdcvShape as NamedShape>⟧.shown NAMES view (⟦<Mdcv as DeclaredBox>⟧.layout.content b) };
+    ghost shown = { λ view b. ⟦<MdcvShape as NamedShape>⟧.shown NAMES.now view
+        (⟦<Mdcv as DeclaredBox>⟧.layout.content b) };
 
-    ghost whole = { λ view b. ⟦<MdcvShape as NamedShape>⟧.whole NAMES view (⟦<Mdcv as DeclaredBox>⟧.layout.content b) };
+    ghost whole = { λ view b. ⟦<MdcvShape as NamedShape>⟧.whole NAMES.now view
+        (⟦<Mdcv as DeclaredBox>⟧.layout.content b) };
 
     fn show<K: FieldSink>(&self, view: View, sink: &mut K) -> mp4_shown::Result<()> {
         let parts = parts_of!(self => display_primaries_0, display_primaries_1,
             display_primaries_2, white_point, max_display_mastering_luminance,
             min_display_mastering_luminance);
-        MdcvShape::show(NAMES, view, parts, sink)
+        MdcvShape::show(NAMES, view, &parts, sink)
     }
 }
 

@@ -45,15 +45,20 @@ impl DeclaredBox for Pasp {
 }
 
 /// The names of the fields.
-const NAMES: <PaspShape as NamedShape>::Names = names_of!(number!("hSpacing"), number!("vSpacing"));
+const NAMES: &<PaspShape as NamedShape>::Names = &names_of!(
+    number!("hSpacing"),
+    number!("vSpacing")
+);
 
 impl HasFields for Pasp {
-    ghost shown = { λ view b. ⟦<PaspShape as NamedShape>⟧.shown NAMES view (⟦<Pasp as DeclaredBox>⟧.layout.content b) };
+    ghost shown = { λ view b. ⟦<PaspShape as NamedShape>⟧.shown NAMES.now view
+        (⟦<Pasp as DeclaredBox>⟧.layout.content b) };
 
-    ghost whole = { λ view b. ⟦<PaspShape as NamedShape>⟧.whole NAMES view (⟦<Pasp as DeclaredBox>⟧.layout.content b) };
+    ghost whole = { λ view b. ⟦<PaspShape as NamedShape>⟧.whole NAMES.now view
+        (⟦<Pasp as DeclaredBox>⟧.layout.content b) };
 
     fn show<K: FieldSink>(&self, view: View, sink: &mut K) -> mp4_shown::Result<()> {
-        PaspShape::show(NAMES, view, parts_of!(self => h_spacing, v_spacing), sink)
+        PaspShape::show(NAMES, view, &parts_of!(self => h_spacing, v_spacing), sink)
     }
 }
 

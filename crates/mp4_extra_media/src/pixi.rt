@@ -47,20 +47,22 @@ impl DeclaredBox for Pixi {
 }
 
 /// The names of the fields.
-const NAMES: <PixiShape as NamedShape>::Names = names_of!(
+const NAMES: &<PixiShape as NamedShape>::Names = &names_of!(
     VERSION,
     FLAGS,
     run!("bits_per_channel", Numbers)
 );
 
 impl HasFields for Pixi {
-    ghost shown = { λ view b. ⟦<PixiShape as NamedShape>⟧.shown NAMES view (⟦<Pixi as DeclaredBox>⟧.layout.content b) };
+    ghost shown = { λ view b. ⟦<PixiShape as NamedShape>⟧.shown NAMES.now view
+        (⟦<Pixi as DeclaredBox>⟧.layout.content b) };
 
-    ghost whole = { λ view b. ⟦<PixiShape as NamedShape>⟧.whole NAMES view (⟦<Pixi as DeclaredBox>⟧.layout.content b) };
+    ghost whole = { λ view b. ⟦<PixiShape as NamedShape>⟧.whole NAMES.now view
+        (⟦<Pixi as DeclaredBox>⟧.layout.content b) };
 
     fn show<K: FieldSink>(&self, view: View, sink: &mut K) -> mp4_shown::Result<()> {
         let parts = parts_of!(self => version, flags, bits_per_channel.as_slice());
-        PixiShape::show(NAMES, view, parts, sink)
+        PixiShape::show(NAMES, view, &parts, sink)
     }
 }
 

@@ -49,16 +49,22 @@ impl DeclaredBox for Srat {
 }
 
 /// The names of the fields.
-const NAMES: <SratShape as NamedShape>::Names = names_of!(VERSION, FLAGS, number!("sampling_rate"));
+const NAMES: &<SratShape as NamedShape>::Names = &names_of!(
+    VERSION,
+    FLAGS,
+    number!("sampling_rate")
+);
 
 impl HasFields for Srat {
-    ghost shown = { λ view b. ⟦<SratShape as NamedShape>⟧.shown NAMES view (⟦<Srat as DeclaredBox>⟧.layout.content b) };
+    ghost shown = { λ view b. ⟦<SratShape as NamedShape>⟧.shown NAMES.now view
+        (⟦<Srat as DeclaredBox>⟧.layout.content b) };
 
-    ghost whole = { λ view b. ⟦<SratShape as NamedShape>⟧.whole NAMES view (⟦<Srat as DeclaredBox>⟧.layout.content b) };
+    ghost whole = { λ view b. ⟦<SratShape as NamedShape>⟧.whole NAMES.now view
+        (⟦<Srat as DeclaredBox>⟧.layout.content b) };
 
     fn show<K: FieldSink>(&self, view: View, sink: &mut K) -> mp4_shown::Result<()> {
         let parts = parts_of!(self => version, flags, sampling_rate);
-        SratShape::show(NAMES, view, parts, sink)
+        SratShape::show(NAMES, view, &parts, sink)
     }
 }
 

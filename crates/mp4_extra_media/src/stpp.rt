@@ -56,7 +56,7 @@ impl DeclaredBox for Stpp {
 }
 
 /// The names of the fields.
-const NAMES: <StppShape as NamedShape>::Names = names_of!(
+const NAMES: &<StppShape as NamedShape>::Names = &names_of!(
     number!("data_reference_index"),
     run!("namespace", Text),
     run!("schema_location", Text),
@@ -65,15 +65,17 @@ const NAMES: <StppShape as NamedShape>::Names = names_of!(
 );
 
 impl HasFields for Stpp {
-    ghost shown = { λ view b. ⟦<StppShape as NamedShape>⟧.shown NAMES view (⟦<Stpp as DeclaredBox>⟧.layout.content b) };
+    ghost shown = { λ view b. ⟦<StppShape as NamedShape>⟧.shown NAMES.now view
+        (⟦<Stpp as DeclaredBox>⟧.layout.content b) };
 
-    ghost whole = { λ view b. ⟦<StppShape as NamedShape>⟧.whole NAMES view (⟦<Stpp as DeclaredBox>⟧.layout.content b) };
+    ghost whole = { λ view b. ⟦<StppShape as NamedShape>⟧.whole NAMES.now view
+        (⟦<Stpp as DeclaredBox>⟧.layout.content b) };
 
     fn show<K: FieldSink>(&self, view: View, sink: &mut K) -> mp4_shown::Result<()> {
         let parts =
             parts_of!(self => data_reference_index, namespace.as_slice(), schema_location.as_slice(),
             auxiliary_mime_types.as_slice(), boxes.as_slice());
-        StppShape::show(NAMES, view, parts, sink)
+        StppShape::show(NAMES, view, &parts, sink)
     }
 }
 

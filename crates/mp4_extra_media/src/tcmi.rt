@@ -57,7 +57,7 @@ impl DeclaredBox for Tcmi {
 }
 
 /// The names of the fields.
-const NAMES: <TcmiShape as NamedShape>::Names = names_of!(
+const NAMES: &<TcmiShape as NamedShape>::Names = &names_of!(
     VERSION,
     FLAGS,
     number!("text_font"),
@@ -67,14 +67,16 @@ const NAMES: <TcmiShape as NamedShape>::Names = names_of!(
 );
 
 impl HasFields for Tcmi {
-    ghost shown = { λ view b. ⟦<TcmiShape as NamedShape>⟧.shown NAMES view (⟦<Tcmi as DeclaredBox>⟧.layout.content b) };
+    ghost shown = { λ view b. ⟦<TcmiShape as NamedShape>⟧.shown NAMES.now view
+        (⟦<Tcmi as DeclaredBox>⟧.layout.content b) };
 
-    ghost whole = { λ view b. ⟦<TcmiShape as NamedShape>⟧.whole NAMES view (⟦<Tcmi as DeclaredBox>⟧.layout.content b) };
+    ghost whole = { λ view b. ⟦<TcmiShape as NamedShape>⟧.whole NAMES.now view
+        (⟦<Tcmi as DeclaredBox>⟧.layout.content b) };
 
     fn show<K: FieldSink>(&self, view: View, sink: &mut K) -> mp4_shown::Result<()> {
         let parts =
             parts_of!(self => version, flags, text_font, text_face, text_size, rest.as_slice());
-        TcmiShape::show(NAMES, view, parts, sink)
+        TcmiShape::show(NAMES, view, &parts, sink)
     }
 }
 

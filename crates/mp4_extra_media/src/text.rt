@@ -95,7 +95,7 @@ impl DeclaredBox for Text {
 }
 
 /// The names of the fields.
-const NAMES: <TextShape as NamedShape>::Names = names_of!(
+const NAMES: &<TextShape as NamedShape>::Names = &names_of!(
     names_of!(
         number!("a", Fixed(16)),
         number!("b", Fixed(16)),
@@ -114,15 +114,17 @@ const NAMES: <TextShape as NamedShape>::Names = names_of!(
 );
 
 impl HasFields for Text {
-    ghost shown = { λ view b. ⟦<TextShape as NamedShape>⟧.shown NAMES view (⟦<Text as DeclaredBox>⟧.layout.content b) };
+    ghost shown = { λ view b. ⟦<TextShape as NamedShape>⟧.shown NAMES.now view
+        (⟦<Text as DeclaredBox>⟧.layout.content b) };
 
-    ghost whole = { λ view b. ⟦<TextShape as NamedShape>⟧.whole NAMES view (⟦<Text as DeclaredBox>⟧.layout.content b) };
+    ghost whole = { λ view b. ⟦<TextShape as NamedShape>⟧.whole NAMES.now view
+        (⟦<Text as DeclaredBox>⟧.layout.content b) };
 
     fn show<K: FieldSink>(&self, view: View, sink: &mut K) -> mp4_shown::Result<()> {
         let first = parts_of!(self => a, b, u);
         let second = parts_of!(self => c, d, v);
         let third = parts_of!(self => x, y, w);
-        TextShape::show(NAMES, view, (first, (second, (third, ()))), sink)
+        TextShape::show(NAMES, view, &(first, (second, (third, ()))), sink)
     }
 }
 

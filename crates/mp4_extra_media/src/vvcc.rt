@@ -104,7 +104,7 @@ const FRONT: &[NumberName] = &[
 ];
 
 /// The names of the fields.
-const NAMES: <VvccShape as NamedShape>::Names = names_of!(
+const NAMES: &<VvccShape as NamedShape>::Names = &names_of!(
     VERSION,
     FLAGS,
     FRONT,
@@ -112,13 +112,15 @@ const NAMES: <VvccShape as NamedShape>::Names = names_of!(
 );
 
 impl HasFields for Vvcc {
-    ghost shown = { λ view b. ⟦<VvccShape as NamedShape>⟧.shown NAMES view (⟦<Vvcc as DeclaredBox>⟧.layout.content b) };
+    ghost shown = { λ view b. ⟦<VvccShape as NamedShape>⟧.shown NAMES.now view
+        (⟦<Vvcc as DeclaredBox>⟧.layout.content b) };
 
-    ghost whole = { λ view b. ⟦<VvccShape as NamedShape>⟧.whole NAMES view (⟦<Vvcc as DeclaredBox>⟧.layout.content b) };
+    ghost whole = { λ view b. ⟦<VvccShape as NamedShape>⟧.whole NAMES.now view
+        (⟦<Vvcc as DeclaredBox>⟧.layout.content b) };
 
     fn show<K: FieldSink>(&self, view: View, sink: &mut K) -> mp4_shown::Result<()> {
         let parts = parts_of!(self => version, flags, front, record.as_slice());
-        VvccShape::show(NAMES, view, parts, sink)
+        VvccShape::show(NAMES, view, &parts, sink)
     }
 }
 

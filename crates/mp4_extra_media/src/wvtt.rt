@@ -46,19 +46,21 @@ impl DeclaredBox for Wvtt {
 }
 
 /// The names of the fields.
-const NAMES: <WvttShape as NamedShape>::Names = names_of!(
+const NAMES: &<WvttShape as NamedShape>::Names = &names_of!(
     number!("data_reference_index"),
     run!("data_bytes", SomeBytes)
 );
 
 impl HasFields for Wvtt {
-    ghost shown = { λ view b. ⟦<WvttShape as NamedShape>⟧.shown NAMES view (⟦<Wvtt as DeclaredBox>⟧.layout.content b) };
+    ghost shown = { λ view b. ⟦<WvttShape as NamedShape>⟧.shown NAMES.now view
+        (⟦<Wvtt as DeclaredBox>⟧.layout.content b) };
 
-    ghost whole = { λ view b. ⟦<WvttShape as NamedShape>⟧.whole NAMES view (⟦<Wvtt as DeclaredBox>⟧.layout.content b) };
+    ghost whole = { λ view b. ⟦<WvttShape as NamedShape>⟧.whole NAMES.now view
+        (⟦<Wvtt as DeclaredBox>⟧.layout.content b) };
 
     fn show<K: FieldSink>(&self, view: View, sink: &mut K) -> mp4_shown::Result<()> {
         let parts = parts_of!(self => data_reference_index, boxes.as_slice());
-        WvttShape::show(NAMES, view, parts, sink)
+        WvttShape::show(NAMES, view, &parts, sink)
     }
 }
 
