@@ -144,16 +144,16 @@ impl ShowShape<u16> for Country {
     ghost content = { λ c. c };
 
     fn show<K: FieldSink>(
-        name: &'static str,
+        name: &&'static str,
         _view: View,
-        value: u16,
+        value: &u16,
         sink: &mut K,
     ) -> mp4_shown::Result<()> {
         put_locale(
-            name,
-            value,
-            is_country(value),
-            &country_letters(value),
+            *name,
+            *value,
+            is_country(*value),
+            &country_letters(*value),
             sink,
         )
     }
@@ -200,16 +200,16 @@ impl ShowShape<u16> for Language {
     ghost content = { λ c. c };
 
     fn show<K: FieldSink>(
-        name: &'static str,
+        name: &&'static str,
         _view: View,
-        value: u16,
+        value: &u16,
         sink: &mut K,
     ) -> mp4_shown::Result<()> {
         put_locale(
-            name,
-            value,
-            is_language(value),
-            &language_letters(value),
+            *name,
+            *value,
+            is_language(*value),
+            &language_letters(*value),
             sink,
         )
     }
@@ -384,14 +384,14 @@ impl<'a> ShowShape<(bool, (u32, &'a [u8]))> for TypedValue {
     ghost content = { λ v. (v.0, (v.1.0, v.1.1.now)) };
 
     fn show<K: FieldSink>(
-        names: Self::Names,
+        names: &Self::Names,
         view: View,
-        value: (bool, (u32, &'a [u8])),
+        value: &(bool, (u32, &'a [u8])),
         sink: &mut K,
     ) -> mp4_shown::Result<()> {
-        let (is_known, (data_type, bytes)) = value;
+        let (is_known, (data_type, bytes)) = *value;
         let kind = kind_of(is_known, data_type, bytes.len());
-        put_kind(names, view.rows, kind, bytes, sink)
+        put_kind(*names, view.rows, kind, bytes, sink)
     }
 }
 
@@ -399,7 +399,7 @@ impl<'a> ShowShape<(bool, (u32, &'a [u8]))> for TypedValue {
 type DataShown = (U8, NamedBy<U24>, Country, Language, TypedValue);
 
 /// The names of the fields.
-const NAMES: <DataShown as NamedShape>::Names = (
+const NAMES: &<DataShown as NamedShape>::Names = &(
     number!("type_set", Reserved(0)),
     (
         (
@@ -423,12 +423,12 @@ const NAMES: <DataShown as NamedShape>::Names = (
 );
 
 impl HasFields for Data {
-    ghost shown = { λ view b. ⟦<DataShown as NamedShape>⟧.shown NAMES view (
+    ghost shown = { λ view b. ⟦<DataShown as NamedShape>⟧.shown NAMES.now view (
       b.type_set,
       ((b.type_set == 0, b.data_type), (b.country, (b.language, (b.type_set == 0, (b.data_type, b.value))))),
     ) };
 
-    ghost whole = { λ view b. ⟦<DataShown as NamedShape>⟧.whole NAMES view (
+    ghost whole = { λ view b. ⟦<DataShown as NamedShape>⟧.whole NAMES.now view (
       b.type_set,
       ((b.type_set == 0, b.data_type), (b.country, (b.language, (b.type_set == 0, (b.data_type, b.value))))),
     ) };
@@ -438,7 +438,7 @@ impl HasFields for Data {
         let value = (is_known, (self.data_type, self.value.as_slice()));
         let locale = (self.country, (self.language, value));
         let parts = (self.type_set, ((is_known, self.data_type), locale));
-        DataShown::show(NAMES, view, parts, sink)
+        DataShown::show(NAMES, view, &parts, sink)
     }
 }
 

@@ -51,20 +51,22 @@ impl DeclaredBox for Elng {
 }
 
 /// The names of the fields.
-const NAMES: <ElngShape as NamedShape>::Names = names_of!(
+const NAMES: &<ElngShape as NamedShape>::Names = &names_of!(
     VERSION,
     FLAGS,
     run!("extended_language", Ended)
 );
 
 impl HasFields for Elng {
-    ghost shown = { λ view b. ⟦<ElngShape as NamedShape>⟧.shown NAMES view (⟦<Elng as DeclaredBox>⟧.layout.content b) };
+    ghost shown = { λ view b. ⟦<ElngShape as NamedShape>⟧.shown NAMES.now view
+        (⟦<Elng as DeclaredBox>⟧.layout.content b) };
 
-    ghost whole = { λ view b. ⟦<ElngShape as NamedShape>⟧.whole NAMES view (⟦<Elng as DeclaredBox>⟧.layout.content b) };
+    ghost whole = { λ view b. ⟦<ElngShape as NamedShape>⟧.whole NAMES.now view
+        (⟦<Elng as DeclaredBox>⟧.layout.content b) };
 
     fn show<K: FieldSink>(&self, view: View, sink: &mut K) -> mp4_shown::Result<()> {
         let parts = parts_of!(self => version, flags, extended_language.as_slice());
-        ElngShape::show(NAMES, view, parts, sink)
+        ElngShape::show(NAMES, view, &parts, sink)
     }
 }
 

@@ -42,15 +42,17 @@ impl DeclaredBox for Frma {
 }
 
 /// The names of the fields.
-const NAMES: <FrmaShape as NamedShape>::Names = names_of!("data_format");
+const NAMES: &<FrmaShape as NamedShape>::Names = &names_of!("data_format");
 
 impl HasFields for Frma {
-    ghost shown = { λ view b. ⟦<FrmaShape as NamedShape>⟧.shown NAMES view (⟦<Frma as DeclaredBox>⟧.layout.content b) };
+    ghost shown = { λ view b. ⟦<FrmaShape as NamedShape>⟧.shown NAMES.now view
+        (⟦<Frma as DeclaredBox>⟧.layout.content b) };
 
-    ghost whole = { λ view b. ⟦<FrmaShape as NamedShape>⟧.whole NAMES view (⟦<Frma as DeclaredBox>⟧.layout.content b) };
+    ghost whole = { λ view b. ⟦<FrmaShape as NamedShape>⟧.whole NAMES.now view
+        (⟦<Frma as DeclaredBox>⟧.layout.content b) };
 
     fn show<K: FieldSink>(&self, view: View, sink: &mut K) -> mp4_shown::Result<()> {
-        FrmaShape::show(NAMES, view, parts_of!(self => data_format), sink)
+        FrmaShape::show(NAMES, view, &parts_of!(self => data_format), sink)
     }
 }
 

@@ -58,7 +58,7 @@ impl DeclaredBox for Hmhd {
 }
 
 /// The names of the fields.
-const NAMES: <HmhdShape as NamedShape>::Names = names_of!(
+const NAMES: &<HmhdShape as NamedShape>::Names = &names_of!(
     VERSION,
     FLAGS,
     number!("maxPDUsize"),
@@ -68,14 +68,16 @@ const NAMES: <HmhdShape as NamedShape>::Names = names_of!(
 );
 
 impl HasFields for Hmhd {
-    ghost shown = { λ view b. ⟦<HmhdShape as NamedShape>⟧.shown NAMES view (⟦<Hmhd as DeclaredBox>⟧.layout.content b) };
+    ghost shown = { λ view b. ⟦<HmhdShape as NamedShape>⟧.shown NAMES.now view
+        (⟦<Hmhd as DeclaredBox>⟧.layout.content b) };
 
-    ghost whole = { λ view b. ⟦<HmhdShape as NamedShape>⟧.whole NAMES view (⟦<Hmhd as DeclaredBox>⟧.layout.content b) };
+    ghost whole = { λ view b. ⟦<HmhdShape as NamedShape>⟧.whole NAMES.now view
+        (⟦<Hmhd as DeclaredBox>⟧.layout.content b) };
 
     fn show<K: FieldSink>(&self, view: View, sink: &mut K) -> mp4_shown::Result<()> {
         let parts = parts_of!(self => version, flags, max_pdu_size, avg_pdu_size, max_bitrate,
             avg_bitrate);
-        HmhdShape::show(NAMES, view, parts, sink)
+        HmhdShape::show(NAMES, view, &parts, sink)
     }
 }
 

@@ -108,7 +108,7 @@ const SIZES: &[NumberName] = &[
 ];
 
 /// The names of the fields.
-const NAMES: <IlocShape as NamedShape>::Names = names_of!(
+const NAMES: &<IlocShape as NamedShape>::Names = &names_of!(
     VERSION,
     FLAGS,
     SIZES,
@@ -117,13 +117,15 @@ const NAMES: <IlocShape as NamedShape>::Names = names_of!(
 );
 
 impl HasFields for Iloc {
-    ghost shown = { λ view b. ⟦<IlocShape as NamedShape>⟧.shown NAMES view (⟦<Iloc as DeclaredBox>⟧.layout.content b) };
+    ghost shown = { λ view b. ⟦<IlocShape as NamedShape>⟧.shown NAMES.now view
+        (⟦<Iloc as DeclaredBox>⟧.layout.content b) };
 
-    ghost whole = { λ view b. ⟦<IlocShape as NamedShape>⟧.whole NAMES view (⟦<Iloc as DeclaredBox>⟧.layout.content b) };
+    ghost whole = { λ view b. ⟦<IlocShape as NamedShape>⟧.whole NAMES.now view
+        (⟦<Iloc as DeclaredBox>⟧.layout.content b) };
 
     fn show<K: FieldSink>(&self, view: View, sink: &mut K) -> mp4_shown::Result<()> {
         let parts = parts_of!(self => version, flags, sizes, item_count, items.as_slice());
-        IlocShape::show(NAMES, view, parts, sink)
+        IlocShape::show(NAMES, view, &parts, sink)
     }
 }
 

@@ -106,7 +106,7 @@ type InfeShown = Full<
 const ITEM_FLAGS: &[Meaning] = &[(0x1, "hidden")];
 
 /// The names of the fields.
-const NAMES: <InfeShown as NamedShape>::Names = (
+const NAMES: &<InfeShown as NamedShape>::Names = &(
     VERSION,
     (
         number!("flags", Flags(6), ITEM_FLAGS),
@@ -130,7 +130,7 @@ const NAMES: <InfeShown as NamedShape>::Names = (
 );
 
 impl HasFields for Infe {
-    ghost shown = { λ view b. ⟦<InfeShown as NamedShape>⟧.shown NAMES view (
+    ghost shown = { λ view b. ⟦<InfeShown as NamedShape>⟧.shown NAMES.now view (
       b.version,
       (
         b.flags,
@@ -147,7 +147,7 @@ impl HasFields for Infe {
       ),
     ) };
 
-    ghost whole = { λ view b. ⟦<InfeShown as NamedShape>⟧.whole NAMES view (
+    ghost whole = { λ view b. ⟦<InfeShown as NamedShape>⟧.whole NAMES.now view (
       b.version,
       (
         b.flags,
@@ -170,7 +170,7 @@ impl HasFields for Infe {
         let strings = (is_mime, (is_uri, self.strings.as_slice()));
         let named = (self.item_type, (self.item_name.as_slice(), strings));
         let item = (self.item_id, (self.item_protection_index, named));
-        show_shape::<InfeShown, _, K>(NAMES, view, (self.version, (self.flags, item)), sink)
+        show_shape::<InfeShown, _, K>(NAMES, view, &(self.version, (self.flags, item)), sink)
     }
 }
 

@@ -47,16 +47,18 @@ impl DeclaredBox for Iods {
 }
 
 /// The names of the fields.
-const NAMES: <IodsShape as NamedShape>::Names = names_of!(VERSION, FLAGS, run!("OD", Bytes));
+const NAMES: &<IodsShape as NamedShape>::Names = &names_of!(VERSION, FLAGS, run!("OD", Bytes));
 
 impl HasFields for Iods {
-    ghost shown = { λ view b. ⟦<IodsShape as NamedShape>⟧.shown NAMES view (⟦<Iods as DeclaredBox>⟧.layout.content b) };
+    ghost shown = { λ view b. ⟦<IodsShape as NamedShape>⟧.shown NAMES.now view
+        (⟦<Iods as DeclaredBox>⟧.layout.content b) };
 
-    ghost whole = { λ view b. ⟦<IodsShape as NamedShape>⟧.whole NAMES view (⟦<Iods as DeclaredBox>⟧.layout.content b) };
+    ghost whole = { λ view b. ⟦<IodsShape as NamedShape>⟧.whole NAMES.now view
+        (⟦<Iods as DeclaredBox>⟧.layout.content b) };
 
     fn show<K: FieldSink>(&self, view: View, sink: &mut K) -> mp4_shown::Result<()> {
         let parts = parts_of!(self => version, flags, descriptor.as_slice());
-        IodsShape::show(NAMES, view, parts, sink)
+        IodsShape::show(NAMES, view, &parts, sink)
     }
 }
 

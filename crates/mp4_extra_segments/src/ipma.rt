@@ -138,19 +138,19 @@ impl DeclaredEntry for ItemProperties {
 const ASSOCIATION: &[NumberName] = &[number!("essential"), number!("property_index")];
 
 /// The names of the fields of an item.
-const ENTRY: <ItemPropertiesShape as NamedShape>::Names = names_of!(
+const ENTRY: &<ItemPropertiesShape as NamedShape>::Names = &names_of!(
     number!("item_ID"),
     (list!("associations"), ASSOCIATION),
     (list!("associations"), ASSOCIATION)
 );
 
 impl ShownEntry for ItemProperties {
-    ghost shown = { λ view x. entry_of (⟦<ItemPropertiesShape as NamedShape>⟧.shown ENTRY view
+    ghost shown = { λ view x. entry_of (⟦<ItemPropertiesShape as NamedShape>⟧.shown ENTRY.now view
         (⟦<ItemProperties as DeclaredEntry>⟧.layout.content x)) };
 
-    ghost whole = { λ view x. whole_entry (⟦<ItemPropertiesShape as NamedShape>⟧.shown ENTRY view
+    ghost whole = { λ view x. whole_entry (⟦<ItemPropertiesShape as NamedShape>⟧.shown ENTRY.now view
         (⟦<ItemProperties as DeclaredEntry>⟧.layout.content x))
-        (⟦<ItemPropertiesShape as NamedShape>⟧.whole ENTRY view
+        (⟦<ItemPropertiesShape as NamedShape>⟧.whole ENTRY.now view
         (⟦<ItemProperties as DeclaredEntry>⟧.layout.content x)) };
 
     fn show<K: FieldSink>(&self, view: View, sink: &mut K) -> mp4_shown::Result<()> {
@@ -164,7 +164,7 @@ impl ShownEntry for ItemProperties {
         };
         sink.begin_entry()?;
         let parts = parts_of!(self => item_id, = associations, = long_associations);
-        show_shape::<ItemPropertiesShape, _, K>(ENTRY, view, parts, sink)?;
+        show_shape::<ItemPropertiesShape, _, K>(ENTRY, view, &parts, sink)?;
         sink.end_entry()
     }
 }
@@ -228,20 +228,22 @@ impl DeclaredBox for Ipma {
 const PROPERTY_FLAGS: &[Meaning] = &[(0x1, "property_index of 15 bits")];
 
 /// The names of the fields.
-const NAMES: <IpmaShape as NamedShape>::Names = names_of!(
+const NAMES: &<IpmaShape as NamedShape>::Names = &names_of!(
     VERSION,
     number!("flags", Flags(6), PROPERTY_FLAGS),
     list!("entries", Counted, "entry_count")
 );
 
 impl HasFields for Ipma {
-    ghost shown = { λ view b. ⟦<IpmaShape as NamedShape>⟧.shown NAMES view (⟦<Ipma as DeclaredBox>⟧.layout.content b) };
+    ghost shown = { λ view b. ⟦<IpmaShape as NamedShape>⟧.shown NAMES.now view
+        (⟦<Ipma as DeclaredBox>⟧.layout.content b) };
 
-    ghost whole = { λ view b. ⟦<IpmaShape as NamedShape>⟧.whole NAMES view (⟦<Ipma as DeclaredBox>⟧.layout.content b) };
+    ghost whole = { λ view b. ⟦<IpmaShape as NamedShape>⟧.whole NAMES.now view
+        (⟦<Ipma as DeclaredBox>⟧.layout.content b) };
 
     fn show<K: FieldSink>(&self, view: View, sink: &mut K) -> mp4_shown::Result<()> {
         let parts = parts_of!(self => version, flags, entries.as_slice());
-        IpmaShape::show(NAMES, view, parts, sink)
+        IpmaShape::show(NAMES, view, &parts, sink)
     }
 }
 

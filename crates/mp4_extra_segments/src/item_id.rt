@@ -97,11 +97,11 @@ impl<const V: u8> ShowShape<u32> for ItemId<V> {
     ghost content = { λ n. n };
 
     fn show<K: FieldSink>(
-        name: NumberName,
+        name: &NumberName,
         _view: View,
-        value: u32,
+        value: &u32,
         sink: &mut K,
     ) -> mp4_shown::Result<()> {
-        put_number(name, u64::from(value), sink)
+        put_number(*name, u64::from(*value), sink)
     }
 }

@@ -50,25 +50,25 @@ impl DeclaredEntry for MetadataKey {
 }
 
 /// The names of the fields of a key.
-const KEY: <MetadataKeyShape as NamedShape>::Names = names_of!(
+const KEY: &<MetadataKeyShape as NamedShape>::Names = &names_of!(
     "Key_namespace",
     run!("Key_value", Text)
 );
 
 impl ShownEntry for MetadataKey {
-    ghost shown = { λ view x. entry_of (⟦<MetadataKeyShape as NamedShape>⟧.shown KEY view
+    ghost shown = { λ view x. entry_of (⟦<MetadataKeyShape as NamedShape>⟧.shown KEY.now view
         (⟦<MetadataKey as DeclaredEntry>⟧.layout.content x)) };
 
-    ghost whole = { λ view x. whole_entry (⟦<MetadataKeyShape as NamedShape>⟧.shown KEY view
+    ghost whole = { λ view x. whole_entry (⟦<MetadataKeyShape as NamedShape>⟧.shown KEY.now view
         (⟦<MetadataKey as DeclaredEntry>⟧.layout.content x))
-        (⟦<MetadataKeyShape as NamedShape>⟧.whole KEY view (⟦<MetadataKey as DeclaredEntry>⟧.layout.content x)) };
+        (⟦<MetadataKeyShape as NamedShape>⟧.whole KEY.now view (⟦<MetadataKey as DeclaredEntry>⟧.layout.content x)) };
 
     fn show<K: FieldSink>(&self, view: View, sink: &mut K) -> mp4_shown::Result<()> {
         sink.begin_entry()?;
         MetadataKeyShape::show(
             KEY,
             view,
-            parts_of!(self => namespace, value.as_slice()),
+            &parts_of!(self => namespace, value.as_slice()),
             sink,
         )?;
         sink.end_entry()
@@ -121,20 +121,22 @@ impl DeclaredBox for Keys {
 }
 
 /// The names of the fields.
-const NAMES: <KeysShape as NamedShape>::Names = names_of!(
+const NAMES: &<KeysShape as NamedShape>::Names = &names_of!(
     VERSION,
     FLAGS,
     list!("entries", Counted, "entry_count")
 );
 
 impl HasFields for Keys {
-    ghost shown = { λ view b. ⟦<KeysShape as NamedShape>⟧.shown NAMES view (⟦<Keys as DeclaredBox>⟧.layout.content b) };
+    ghost shown = { λ view b. ⟦<KeysShape as NamedShape>⟧.shown NAMES.now view
+        (⟦<Keys as DeclaredBox>⟧.layout.content b) };
 
-    ghost whole = { λ view b. ⟦<KeysShape as NamedShape>⟧.whole NAMES view (⟦<Keys as DeclaredBox>⟧.layout.content b) };
+    ghost whole = { λ view b. ⟦<KeysShape as NamedShape>⟧.whole NAMES.now view
+        (⟦<Keys as DeclaredBox>⟧.layout.content b) };
 
     fn show<K: FieldSink>(&self, view: View, sink: &mut K) -> mp4_shown::Result<()> {
         let parts = parts_of!(self => version, flags, entries.as_slice());
-        KeysShape::show(NAMES, view, parts, sink)
+        KeysShape::show(NAMES, view, &parts, sink)
     }
 }
 

@@ -52,7 +52,7 @@ impl DeclaredBox for Kind {
 }
 
 /// The names of the fields.
-const NAMES: <KindShape as NamedShape>::Names = names_of!(
+const NAMES: &<KindShape as NamedShape>::Names = &names_of!(
     VERSION,
     FLAGS,
     run!("schemeURI", Text),
@@ -60,13 +60,15 @@ const NAMES: <KindShape as NamedShape>::Names = names_of!(
 );
 
 impl HasFields for Kind {
-    ghost shown = { λ view b. ⟦<KindShape as NamedShape>⟧.shown NAMES view (⟦<Kind as DeclaredBox>⟧.layout.content b) };
+    ghost shown = { λ view b. ⟦<KindShape as NamedShape>⟧.shown NAMES.now view
+        (⟦<Kind as DeclaredBox>⟧.layout.content b) };
 
-    ghost whole = { λ view b. ⟦<KindShape as NamedShape>⟧.whole NAMES view (⟦<Kind as DeclaredBox>⟧.layout.content b) };
+    ghost whole = { λ view b. ⟦<KindShape as NamedShape>⟧.whole NAMES.now view
+        (⟦<Kind as DeclaredBox>⟧.layout.content b) };
 
     fn show<K: FieldSink>(&self, view: View, sink: &mut K) -> mp4_shown::Result<()> {
         let parts = parts_of!(self => version, flags, scheme_uri.as_slice(), value.as_slice());
-        show_shape::<KindShape, _, K>(NAMES, view, parts, sink)
+        show_shape::<KindShape, _, K>(NAMES, view, &parts, sink)
     }
 }
 

@@ -54,7 +54,7 @@ impl DeclaredBox for Leva {
 }
 
 /// The names of the fields.
-const NAMES: <LevaShape as NamedShape>::Names = names_of!(
+const NAMES: &<LevaShape as NamedShape>::Names = &names_of!(
     VERSION,
     FLAGS,
     number!("level_count"),
@@ -62,13 +62,15 @@ const NAMES: <LevaShape as NamedShape>::Names = names_of!(
 );
 
 impl HasFields for Leva {
-    ghost shown = { λ view b. ⟦<LevaShape as NamedShape>⟧.shown NAMES view (⟦<Leva as DeclaredBox>⟧.layout.content b) };
+    ghost shown = { λ view b. ⟦<LevaShape as NamedShape>⟧.shown NAMES.now view
+        (⟦<Leva as DeclaredBox>⟧.layout.content b) };
 
-    ghost whole = { λ view b. ⟦<LevaShape as NamedShape>⟧.whole NAMES view (⟦<Leva as DeclaredBox>⟧.layout.content b) };
+    ghost whole = { λ view b. ⟦<LevaShape as NamedShape>⟧.whole NAMES.now view
+        (⟦<Leva as DeclaredBox>⟧.layout.content b) };
 
     fn show<K: FieldSink>(&self, view: View, sink: &mut K) -> mp4_shown::Result<()> {
         let parts = parts_of!(self => version, flags, level_count, levels.as_slice());
-        LevaShape::show(NAMES, view, parts, sink)
+        LevaShape::show(NAMES, view, &parts, sink)
     }
 }
 

@@ -48,16 +48,18 @@ impl DeclaredBox for Mean {
 }
 
 /// The names of the fields.
-const NAMES: <MeanShape as NamedShape>::Names = names_of!(VERSION, FLAGS, run!("value", Text));
+const NAMES: &<MeanShape as NamedShape>::Names = &names_of!(VERSION, FLAGS, run!("value", Text));
 
 impl HasFields for Mean {
-    ghost shown = { λ view b. ⟦<MeanShape as NamedShape>⟧.shown NAMES view (⟦<Mean as DeclaredBox>⟧.layout.content b) };
+    ghost shown = { λ view b. ⟦<MeanShape as NamedShape>⟧.shown NAMES.now view
+        (⟦<Mean as DeclaredBox>⟧.layout.content b) };
 
-    ghost whole = { λ view b. ⟦<MeanShape as NamedShape>⟧.whole NAMES view (⟦<Mean as DeclaredBox>⟧.layout.content b) };
+    ghost whole = { λ view b. ⟦<MeanShape as NamedShape>⟧.whole NAMES.now view
+        (⟦<Mean as DeclaredBox>⟧.layout.content b) };
 
     fn show<K: FieldSink>(&self, view: View, sink: &mut K) -> mp4_shown::Result<()> {
         let parts = parts_of!(self => version, flags, value.as_slice());
-        MeanShape::show(NAMES, view, parts, sink)
+        MeanShape::show(NAMES, view, &parts, sink)
     }
 }
 

@@ -49,16 +49,18 @@ impl DeclaredBox for Mfro {
 }
 
 /// The names of the fields.
-const NAMES: <MfroShape as NamedShape>::Names = names_of!(VERSION, FLAGS, number!("parent_size"));
+const NAMES: &<MfroShape as NamedShape>::Names = &names_of!(VERSION, FLAGS, number!("parent_size"));
 
 impl HasFields for Mfro {
-    ghost shown = { λ view b. ⟦<MfroShape as NamedShape>⟧.shown NAMES view (⟦<Mfro as DeclaredBox>⟧.layout.content b) };
+    ghost shown = { λ view b. ⟦<MfroShape as NamedShape>⟧.shown NAMES.now view
+        (⟦<Mfro as DeclaredBox>⟧.layout.content b) };
 
-    ghost whole = { λ view b. ⟦<MfroShape as NamedShape>⟧.whole NAMES view (⟦<Mfro as DeclaredBox>⟧.layout.content b) };
+    ghost whole = { λ view b. ⟦<MfroShape as NamedShape>⟧.whole NAMES.now view
+        (⟦<Mfro as DeclaredBox>⟧.layout.content b) };
 
     fn show<K: FieldSink>(&self, view: View, sink: &mut K) -> mp4_shown::Result<()> {
         let parts = parts_of!(self => version, flags, parent_size);
-        MfroShape::show(NAMES, view, parts, sink)
+        MfroShape::show(NAMES, view, &parts, sink)
     }
 }
 

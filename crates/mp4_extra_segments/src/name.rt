@@ -48,16 +48,18 @@ impl DeclaredBox for Name {
 }
 
 /// The names of the fields.
-const NAMES: <NameShape as NamedShape>::Names = names_of!(VERSION, FLAGS, run!("value", Text));
+const NAMES: &<NameShape as NamedShape>::Names = &names_of!(VERSION, FLAGS, run!("value", Text));
 
 impl HasFields for Name {
-    ghost shown = { λ view b. ⟦<NameShape as NamedShape>⟧.shown NAMES view (⟦<Name as DeclaredBox>⟧.layout.content b) };
+    ghost shown = { λ view b. ⟦<NameShape as NamedShape>⟧.shown NAMES.now view
+        (⟦<Name as DeclaredBox>⟧.layout.content b) };
 
-    ghost whole = { λ view b. ⟦<NameShape as NamedShape>⟧.whole NAMES view (⟦<Name as DeclaredBox>⟧.layout.content b) };
+    ghost whole = { λ view b. ⟦<NameShape as NamedShape>⟧.whole NAMES.now view
+        (⟦<Name as DeclaredBox>⟧.layout.content b) };
 
     fn show<K: FieldSink>(&self, view: View, sink: &mut K) -> mp4_shown::Result<()> {
         let parts = parts_of!(self => version, flags, value.as_slice());
-        NameShape::show(NAMES, view, parts, sink)
+        NameShape::show(NAMES, view, &parts, sink)
     }
 }
 

@@ -44,15 +44,17 @@ impl DeclaredBox for Nmhd {
 }
 
 /// The names of the fields.
-const NAMES: <NmhdShape as NamedShape>::Names = names_of!(VERSION, FLAGS);
+const NAMES: &<NmhdShape as NamedShape>::Names = &names_of!(VERSION, FLAGS);
 
 impl HasFields for Nmhd {
-    ghost shown = { λ view b. ⟦<NmhdShape as NamedShape>⟧.shown NAMES view (⟦<Nmhd as DeclaredBox>⟧.layout.content b) };
+    ghost shown = { λ view b. ⟦<NmhdShape as NamedShape>⟧.shown NAMES.now view
+        (⟦<Nmhd as DeclaredBox>⟧.layout.content b) };
 
-    ghost whole = { λ view b. ⟦<NmhdShape as NamedShape>⟧.whole NAMES view (⟦<Nmhd as DeclaredBox>⟧.layout.content b) };
+    ghost whole = { λ view b. ⟦<NmhdShape as NamedShape>⟧.whole NAMES.now view
+        (⟦<Nmhd as DeclaredBox>⟧.layout.content b) };
 
     fn show<K: FieldSink>(&self, view: View, sink: &mut K) -> mp4_shown::Result<()> {
-        NmhdShape::show(NAMES, view, parts_of!(self => version, flags), sink)
+        NmhdShape::show(NAMES, view, &parts_of!(self => version, flags), sink)
     }
 }
 

@@ -50,16 +50,18 @@ impl DeclaredBox for Pitm {
 }
 
 /// The names of the fields.
-const NAMES: <PitmShape as NamedShape>::Names = names_of!(VERSION, FLAGS, number!("item_ID"));
+const NAMES: &<PitmShape as NamedShape>::Names = &names_of!(VERSION, FLAGS, number!("item_ID"));
 
 impl HasFields for Pitm {
-    ghost shown = { λ view b. ⟦<PitmShape as NamedShape>⟧.shown NAMES view (⟦<Pitm as DeclaredBox>⟧.layout.content b) };
+    ghost shown = { λ view b. ⟦<PitmShape as NamedShape>⟧.shown NAMES.now view
+        (⟦<Pitm as DeclaredBox>⟧.layout.content b) };
 
-    ghost whole = { λ view b. ⟦<PitmShape as NamedShape>⟧.whole NAMES view (⟦<Pitm as DeclaredBox>⟧.layout.content b) };
+    ghost whole = { λ view b. ⟦<PitmShape as NamedShape>⟧.whole NAMES.now view
+        (⟦<Pitm as DeclaredBox>⟧.layout.content b) };
 
     fn show<K: FieldSink>(&self, view: View, sink: &mut K) -> mp4_shown::Result<()> {
         let parts = parts_of!(self => version, flags, item_id);
-        PitmShape::show(NAMES, view, parts, sink)
+        PitmShape::show(NAMES, view, &parts, sink)
     }
 }
 

@@ -56,7 +56,7 @@ impl DeclaredBox for Prft {
 }
 
 /// The names of the fields.
-const NAMES: <PrftShape as NamedShape>::Names = names_of!(
+const NAMES: &<PrftShape as NamedShape>::Names = &names_of!(
     VERSION,
     FLAGS,
     number!("reference_track_ID"),
@@ -65,14 +65,16 @@ const NAMES: <PrftShape as NamedShape>::Names = names_of!(
 );
 
 impl HasFields for Prft {
-    ghost shown = { λ view b. ⟦<PrftShape as NamedShape>⟧.shown NAMES view (⟦<Prft as DeclaredBox>⟧.layout.content b) };
+    ghost shown = { λ view b. ⟦<PrftShape as NamedShape>⟧.shown NAMES.now view
+        (⟦<Prft as DeclaredBox>⟧.layout.content b) };
 
-    ghost whole = { λ view b. ⟦<PrftShape as NamedShape>⟧.whole NAMES view (⟦<Prft as DeclaredBox>⟧.layout.content b) };
+    ghost whole = { λ view b. ⟦<PrftShape as NamedShape>⟧.whole NAMES.now view
+        (⟦<Prft as DeclaredBox>⟧.layout.content b) };
 
     fn show<K: FieldSink>(&self, view: View, sink: &mut K) -> mp4_shown::Result<()> {
         let parts = parts_of!(self => version, flags, reference_track_id, ntp_timestamp,
             media_time);
-        PrftShape::show(NAMES, view, parts, sink)
+        PrftShape::show(NAMES, view, &parts, sink)
     }
 }
 

@@ -126,15 +126,15 @@ impl ShowShape<[u8; 16]> for ProtectionSystem {
     ghost content = { λ id. id };
 
     fn show<K: FieldSink>(
-        names: (&'static str, &'static str),
+        names: &(&'static str, &'static str),
         _view: View,
-        value: [u8; 16],
+        value: &[u8; 16],
         sink: &mut K,
     ) -> mp4_shown::Result<()> {
-        sink.field(names.0, Value::Bytes(&value))?;
+        sink.field(names.0, Value::Bytes(value))?;
         put_name(
             names.1,
-            system_name(u64_at(&value, 0), u64_at(&value, 8)),
+            system_name(u64_at(value, 0), u64_at(value, 8)),
             sink,
         )
     }
@@ -151,7 +151,7 @@ type PsshShown = Full<
 >;
 
 /// The names of the fields.
-const NAMES: <PsshShown as NamedShape>::Names = names_of!(
+const NAMES: &<PsshShown as NamedShape>::Names = &names_of!(
     VERSION,
     FLAGS,
     ("SystemID", "SystemID_name"),
@@ -160,9 +160,11 @@ const NAMES: <PsshShown as NamedShape>::Names = names_of!(
 );
 
 impl HasFields for Pssh {
-    ghost shown = { λ view b. ⟦<PsshShown as NamedShape>⟧.shown NAMES view (⟦<Pssh as DeclaredBox>⟧.layout.content b) };
+    ghost shown = { λ view b. ⟦<PsshShown as NamedShape>⟧.shown NAMES.now view
+        (⟦<Pssh as DeclaredBox>⟧.layout.content b) };
 
-    ghost whole = { λ view b. ⟦<PsshShown as NamedShape>⟧.whole NAMES view (⟦<Pssh as DeclaredBox>⟧.layout.content b) };
+    ghost whole = { λ view b. ⟦<PsshShown as NamedShape>⟧.whole NAMES.now view
+        (⟦<Pssh as DeclaredBox>⟧.layout.content b) };
 
     fn show<K: FieldSink>(&self, view: View, sink: &mut K) -> mp4_shown::Result<()> {
         let key_ids = match &self.key_ids {
@@ -170,7 +172,7 @@ impl HasFields for Pssh {
             None => None,
         };
         let parts = parts_of!(self => version, flags, system_id, = key_ids, system_data.as_slice());
-        show_shape::<PsshShown, _, K>(NAMES, view, parts, sink)
+        show_shape::<PsshShown, _, K>(NAMES, view, &parts, sink)
     }
 }
 

@@ -64,7 +64,7 @@ impl DeclaredBox for Schm {
 const SCHEME_FLAGS: &[Meaning] = &[(0x1, "scheme_uri")];
 
 /// The names of the fields.
-const NAMES: <SchmShape as NamedShape>::Names = names_of!(
+const NAMES: &<SchmShape as NamedShape>::Names = &names_of!(
     VERSION,
     number!("flags", Flags(6), SCHEME_FLAGS),
     "scheme_type",
@@ -73,9 +73,11 @@ const NAMES: <SchmShape as NamedShape>::Names = names_of!(
 );
 
 impl HasFields for Schm {
-    ghost shown = { λ view b. ⟦<SchmShape as NamedShape>⟧.shown NAMES view (⟦<Schm as DeclaredBox>⟧.layout.content b) };
+    ghost shown = { λ view b. ⟦<SchmShape as NamedShape>⟧.shown NAMES.now view
+        (⟦<Schm as DeclaredBox>⟧.layout.content b) };
 
-    ghost whole = { λ view b. ⟦<SchmShape as NamedShape>⟧.whole NAMES view (⟦<Schm as DeclaredBox>⟧.layout.content b) };
+    ghost whole = { λ view b. ⟦<SchmShape as NamedShape>⟧.whole NAMES.now view
+        (⟦<Schm as DeclaredBox>⟧.layout.content b) };
 
     fn show<K: FieldSink>(&self, view: View, sink: &mut K) -> mp4_shown::Result<()> {
         let scheme_uri = match &self.scheme_uri {
@@ -83,7 +85,7 @@ impl HasFields for Schm {
             None => None,
         };
         let parts = parts_of!(self => version, flags, scheme_type, scheme_version, = scheme_uri);
-        SchmShape::show(NAMES, view, parts, sink)
+        SchmShape::show(NAMES, view, &parts, sink)
     }
 }
 

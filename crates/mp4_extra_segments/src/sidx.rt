@@ -117,7 +117,7 @@ const REFERENCE: &[NumberName] = &[
 ];
 
 /// The names of the fields.
-const NAMES: <SidxShape as NamedShape>::Names = names_of!(
+const NAMES: &<SidxShape as NamedShape>::Names = &names_of!(
     VERSION,
     FLAGS,
     number!("reference_ID"),
@@ -128,14 +128,16 @@ const NAMES: <SidxShape as NamedShape>::Names = names_of!(
 );
 
 impl HasFields for Sidx {
-    ghost shown = { λ view b. ⟦<SidxShape as NamedShape>⟧.shown NAMES view (⟦<Sidx as DeclaredBox>⟧.layout.content b) };
+    ghost shown = { λ view b. ⟦<SidxShape as NamedShape>⟧.shown NAMES.now view
+        (⟦<Sidx as DeclaredBox>⟧.layout.content b) };
 
-    ghost whole = { λ view b. ⟦<SidxShape as NamedShape>⟧.whole NAMES view (⟦<Sidx as DeclaredBox>⟧.layout.content b) };
+    ghost whole = { λ view b. ⟦<SidxShape as NamedShape>⟧.whole NAMES.now view
+        (⟦<Sidx as DeclaredBox>⟧.layout.content b) };
 
     fn show<K: FieldSink>(&self, view: View, sink: &mut K) -> mp4_shown::Result<()> {
         let parts = parts_of!(self => version, flags, reference_id, timescale,
             earliest_presentation_time, first_offset, entries.as_slice());
-        SidxShape::show(NAMES, view, parts, sink)
+        SidxShape::show(NAMES, view, &parts, sink)
     }
 }
 

@@ -81,23 +81,28 @@ impl DeclaredEntry for SsixSubsegment {
 const RANGE: &[NumberName] = &[number!("level"), number!("range_size")];
 
 /// The names of the fields of a subsegment.
-const SUBSEGMENT: <SsixSubsegmentShape as NamedShape>::Names = names_of!((
+const SUBSEGMENT: &<SsixSubsegmentShape as NamedShape>::Names = &names_of!((
     list!("ranges", Counted, "range_count"),
     RANGE
 ));
 
 impl ShownEntry for SsixSubsegment {
-    ghost shown = { λ view x. entry_of (⟦<SsixSubsegmentShape as NamedShape>⟧.shown SUBSEGMENT view
+    ghost shown = { λ view x. entry_of (⟦<SsixSubsegmentShape as NamedShape>⟧.shown SUBSEGMENT.now view
         (⟦<SsixSubsegment as DeclaredEntry>⟧.layout.content x)) };
 
-    ghost whole = { λ view x. whole_entry (⟦<SsixSubsegmentShape as NamedShape>⟧.shown SUBSEGMENT view
+    ghost whole = { λ view x. whole_entry (⟦<SsixSubsegmentShape as NamedShape>⟧.shown SUBSEGMENT.now view
         (⟦<SsixSubsegment as DeclaredEntry>⟧.layout.content x))
-        (⟦<SsixSubsegmentShape as NamedShape>⟧.whole SUBSEGMENT view
+        (⟦<SsixSubsegmentShape as NamedShape>⟧.whole SUBSEGMENT.now view
         (⟦<SsixSubsegment as DeclaredEntry>⟧.layout.content x)) };
 
     fn show<K: FieldSink>(&self, view: View, sink: &mut K) -> mp4_shown::Result<()> {
         sink.begin_entry()?;
-        SsixSubsegmentShape::show(SUBSEGMENT, view, parts_of!(self => ranges.as_slice()), sink)?;
+        SsixSubsegmentShape::show(
+            SUBSEGMENT,
+            view,
+            &parts_of!(self => ranges.as_slice()),
+            sink,
+        )?;
         sink.end_entry()
     }
 }
@@ -148,20 +153,22 @@ impl DeclaredBox for Ssix {
 }
 
 /// The names of the fields.
-const NAMES: <SsixShape as NamedShape>::Names = names_of!(
+const NAMES: &<SsixShape as NamedShape>::Names = &names_of!(
     VERSION,
     FLAGS,
     list!("subsegments", Counted, "subsegment_count")
 );
 
 impl HasFields for Ssix {
-    ghost shown = { λ view b. ⟦<SsixShape as NamedShape>⟧.shown NAMES view (⟦<Ssix as DeclaredBox>⟧.layout.content b) };
+    ghost shown = { λ view b. ⟦<SsixShape as NamedShape>⟧.shown NAMES.now view
+        (⟦<Ssix as DeclaredBox>⟧.layout.content b) };
 
-    ghost whole = { λ view b. ⟦<SsixShape as NamedShape>⟧.whole NAMES view (⟦<Ssix as DeclaredBox>⟧.layout.content b) };
+    ghost whole = { λ view b. ⟦<SsixShape as NamedShape>⟧.whole NAMES.now view
+        (⟦<Ssix as DeclaredBox>⟧.layout.content b) };
 
     fn show<K: FieldSink>(&self, view: View, sink: &mut K) -> mp4_shown::Result<()> {
         let parts = parts_of!(self => version, flags, subsegments.as_slice());
-        SsixShape::show(NAMES, view, parts, sink)
+        SsixShape::show(NAMES, view, &parts, sink)
     }
 }
 

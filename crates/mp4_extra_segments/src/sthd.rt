@@ -44,15 +44,17 @@ impl DeclaredBox for Sthd {
 }
 
 /// The names of the fields.
-const NAMES: <SthdShape as NamedShape>::Names = names_of!(VERSION, FLAGS);
+const NAMES: &<SthdShape as NamedShape>::Names = &names_of!(VERSION, FLAGS);
 
 impl HasFields for Sthd {
-    ghost shown = { λ view b. ⟦<SthdShape as NamedShape>⟧.shown NAMES view (⟦<Sthd as DeclaredBox>⟧.layout.content b) };
+    ghost shown = { λ view b. ⟦<SthdShape as NamedShape>⟧.shown NAMES.now view
+        (⟦<Sthd as DeclaredBox>⟧.layout.content b) };
 
-    ghost whole = { λ view b. ⟦<SthdShape as NamedShape>⟧.whole NAMES view (⟦<Sthd as DeclaredBox>⟧.layout.content b) };
+    ghost whole = { λ view b. ⟦<SthdShape as NamedShape>⟧.whole NAMES.now view
+        (⟦<Sthd as DeclaredBox>⟧.layout.content b) };
 
     fn show<K: FieldSink>(&self, view: View, sink: &mut K) -> mp4_shown::Result<()> {
-        SthdShape::show(NAMES, view, parts_of!(self => version, flags), sink)
+        SthdShape::show(NAMES, view, &parts_of!(self => version, flags), sink)
     }
 }
 

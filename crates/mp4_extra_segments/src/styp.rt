@@ -49,20 +49,22 @@ impl DeclaredBox for Styp {
 }
 
 /// The names of the fields.
-const NAMES: <StypShape as NamedShape>::Names = names_of!(
+const NAMES: &<StypShape as NamedShape>::Names = &names_of!(
     "major_brand",
     number!("minor_version"),
     "compatible_brands"
 );
 
 impl HasFields for Styp {
-    ghost shown = { λ view b. ⟦<StypShape as NamedShape>⟧.shown NAMES view (⟦<Styp as DeclaredBox>⟧.layout.content b) };
+    ghost shown = { λ view b. ⟦<StypShape as NamedShape>⟧.shown NAMES.now view
+        (⟦<Styp as DeclaredBox>⟧.layout.content b) };
 
-    ghost whole = { λ view b. ⟦<StypShape as NamedShape>⟧.whole NAMES view (⟦<Styp as DeclaredBox>⟧.layout.content b) };
+    ghost whole = { λ view b. ⟦<StypShape as NamedShape>⟧.whole NAMES.now view
+        (⟦<Styp as DeclaredBox>⟧.layout.content b) };
 
     fn show<K: FieldSink>(&self, view: View, sink: &mut K) -> mp4_shown::Result<()> {
         let parts = parts_of!(self => major_brand, minor_version, compatible_brands.as_slice());
-        StypShape::show(NAMES, view, parts, sink)
+        StypShape::show(NAMES, view, &parts, sink)
     }
 }
 

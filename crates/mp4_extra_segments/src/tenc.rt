@@ -117,7 +117,7 @@ const PATTERN: &[NumberName] = &[
 ];
 
 /// The names of the fields.
-const NAMES: <TencShape as NamedShape>::Names = names_of!(
+const NAMES: &<TencShape as NamedShape>::Names = &names_of!(
     VERSION,
     FLAGS,
     PATTERN,
@@ -128,14 +128,16 @@ const NAMES: <TencShape as NamedShape>::Names = names_of!(
 );
 
 impl HasFields for Tenc {
-    ghost shown = { λ view b. ⟦<TencShape as NamedShape>⟧.shown NAMES view (⟦<Tenc as DeclaredBox>⟧.layout.content b) };
+    ghost shown = { λ view b. ⟦<TencShape as NamedShape>⟧.shown NAMES.now view
+        (⟦<Tenc as DeclaredBox>⟧.layout.content b) };
 
-    ghost whole = { λ view b. ⟦<TencShape as NamedShape>⟧.whole NAMES view (⟦<Tenc as DeclaredBox>⟧.layout.content b) };
+    ghost whole = { λ view b. ⟦<TencShape as NamedShape>⟧.whole NAMES.now view
+        (⟦<Tenc as DeclaredBox>⟧.layout.content b) };
 
     fn show<K: FieldSink>(&self, view: View, sink: &mut K) -> mp4_shown::Result<()> {
         let parts = parts_of!(self => version, flags, default_pattern, default_is_protected,
             default_per_sample_iv_size, default_kid, default_constant_iv.as_slice());
-        TencShape::show(NAMES, view, parts, sink)
+        TencShape::show(NAMES, view, &parts, sink)
     }
 }
 

@@ -187,7 +187,7 @@ impl Pieces for Accesses {
 type TfraShown = Full<2, (U32, Bits<TfraLengths, 4, 4>, U32, PiecesOf<Accesses>)>;
 
 /// The names of the fields.
-const NAMES: <TfraShown as NamedShape>::Names = (
+const NAMES: &<TfraShown as NamedShape>::Names = &(
     VERSION,
     (
         FLAGS,
@@ -208,7 +208,7 @@ const NAMES: <TfraShown as NamedShape>::Names = (
 );
 
 impl HasFields for Tfra {
-    ghost shown = { λ view b. ⟦<TfraShown as NamedShape>⟧.shown NAMES view (
+    ghost shown = { λ view b. ⟦<TfraShown as NamedShape>⟧.shown NAMES.now view (
       b.version,
       (
         b.flags,
@@ -228,7 +228,7 @@ impl HasFields for Tfra {
       ),
     ) };
 
-    ghost whole = { λ view b. ⟦<TfraShown as NamedShape>⟧.whole NAMES view (
+    ghost whole = { λ view b. ⟦<TfraShown as NamedShape>⟧.whole NAMES.now view (
       b.version,
       (
         b.flags,
@@ -261,7 +261,7 @@ impl HasFields for Tfra {
         TfraShown::show(
             NAMES,
             view,
-            (self.version, (self.flags, (self.track_id, numbers))),
+            &(self.version, (self.flags, (self.track_id, numbers))),
             sink,
         )
     }

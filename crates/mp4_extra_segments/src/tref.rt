@@ -54,18 +54,18 @@ impl DeclaredEntry for TrackReference {
 }
 
 /// The names of the fields of a reference.
-const REFERENCE: <TrackReferenceShape as NamedShape>::Names = names_of!(
+const REFERENCE: &<TrackReferenceShape as NamedShape>::Names = &names_of!(
     "reference_type",
     "track_IDs"
 );
 
 impl ShownEntry for TrackReference {
-    ghost shown = { λ view x. entry_of (⟦<TrackReferenceShape as NamedShape>⟧.shown REFERENCE view
+    ghost shown = { λ view x. entry_of (⟦<TrackReferenceShape as NamedShape>⟧.shown REFERENCE.now view
         (⟦<TrackReference as DeclaredEntry>⟧.layout.content x)) };
 
-    ghost whole = { λ view x. whole_entry (⟦<TrackReferenceShape as NamedShape>⟧.shown REFERENCE view
+    ghost whole = { λ view x. whole_entry (⟦<TrackReferenceShape as NamedShape>⟧.shown REFERENCE.now view
         (⟦<TrackReference as DeclaredEntry>⟧.layout.content x))
-        (⟦<TrackReferenceShape as NamedShape>⟧.whole REFERENCE view
+        (⟦<TrackReferenceShape as NamedShape>⟧.whole REFERENCE.now view
         (⟦<TrackReference as DeclaredEntry>⟧.layout.content x)) };
 
     fn show<K: FieldSink>(&self, view: View, sink: &mut K) -> mp4_shown::Result<()> {
@@ -73,7 +73,7 @@ impl ShownEntry for TrackReference {
         TrackReferenceShape::show(
             REFERENCE,
             view,
-            parts_of!(self => reference_type, track_ids.as_slice()),
+            &parts_of!(self => reference_type, track_ids.as_slice()),
             sink,
         )?;
         sink.end_entry()
@@ -122,15 +122,17 @@ impl DeclaredBox for Tref {
 }
 
 /// The names of the fields.
-const NAMES: <TrefShape as NamedShape>::Names = names_of!(list!("references"));
+const NAMES: &<TrefShape as NamedShape>::Names = &names_of!(list!("references"));
 
 impl HasFields for Tref {
-    ghost shown = { λ view b. ⟦<TrefShape as NamedShape>⟧.shown NAMES view (⟦<Tref as DeclaredBox>⟧.layout.content b) };
+    ghost shown = { λ view b. ⟦<TrefShape as NamedShape>⟧.shown NAMES.now view
+        (⟦<Tref as DeclaredBox>⟧.layout.content b) };
 
-    ghost whole = { λ view b. ⟦<TrefShape as NamedShape>⟧.whole NAMES view (⟦<Tref as DeclaredBox>⟧.layout.content b) };
+    ghost whole = { λ view b. ⟦<TrefShape as NamedShape>⟧.whole NAMES.now view
+        (⟦<Tref as DeclaredBox>⟧.layout.content b) };
 
     fn show<K: FieldSink>(&self, view: View, sink: &mut K) -> mp4_shown::Result<()> {
-        TrefShape::show(NAMES, view, parts_of!(self => references.as_slice()), sink)
+        TrefShape::show(NAMES, view, &parts_of!(self => references.as_slice()), sink)
     }
 }
 
