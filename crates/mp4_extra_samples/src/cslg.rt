@@ -72,7 +72,7 @@ impl DeclaredBox for Cslg {
 }
 
 /// The names of the fields.
-const NAMES: <CslgShape as NamedShape>::Names = names_of!(
+const NAMES: &<CslgShape as NamedShape>::Names = &names_of!(
     VERSION,
     FLAGS,
     number!("compositionToDTSShift"),
@@ -83,15 +83,17 @@ const NAMES: <CslgShape as NamedShape>::Names = names_of!(
 );
 
 impl HasFields for Cslg {
-    ghost shown = { λ view b. ⟦<CslgShape as NamedShape>⟧.shown NAMES view (⟦<Cslg as DeclaredBox>⟧.layout.content b) };
+    ghost shown = { λ view b. ⟦<CslgShape as NamedShape>⟧.shown NAMES.now view
+        (⟦<Cslg as DeclaredBox>⟧.layout.content b) };
 
-    ghost whole = { λ view b. ⟦<CslgShape as NamedShape>⟧.whole NAMES view (⟦<Cslg as DeclaredBox>⟧.layout.content b) };
+    ghost whole = { λ view b. ⟦<CslgShape as NamedShape>⟧.whole NAMES.now view
+        (⟦<Cslg as DeclaredBox>⟧.layout.content b) };
 
     fn show<K: FieldSink>(&self, view: View, sink: &mut K) -> mp4_shown::Result<()> {
         let parts =
             parts_of!(self => version, flags, composition_to_dts_shift, least_decode_to_display_delta,
             greatest_decode_to_display_delta, composition_start_time, composition_end_time);
-        CslgShape::show(NAMES, view, parts, sink)
+        CslgShape::show(NAMES, view, &parts, sink)
     }
 }
 

@@ -122,7 +122,7 @@ const AUXILIARY_FLAGS: &[Meaning] = &[(0x1, "aux_info_type")];
 const OFFSET: &[NumberName] = &[number!("offset")];
 
 /// The names of the fields.
-const NAMES: <SaioShape as NamedShape>::Names = names_of!(
+const NAMES: &<SaioShape as NamedShape>::Names = &names_of!(
     VERSION,
     number!("flags", Flags(6), AUXILIARY_FLAGS),
     "aux_info_type",
@@ -131,14 +131,16 @@ const NAMES: <SaioShape as NamedShape>::Names = names_of!(
 );
 
 impl HasFields for Saio {
-    ghost shown = { λ view b. ⟦<SaioShape as NamedShape>⟧.shown NAMES view (⟦<Saio as DeclaredBox>⟧.layout.content b) };
+    ghost shown = { λ view b. ⟦<SaioShape as NamedShape>⟧.shown NAMES.now view
+        (⟦<Saio as DeclaredBox>⟧.layout.content b) };
 
-    ghost whole = { λ view b. ⟦<SaioShape as NamedShape>⟧.whole NAMES view (⟦<Saio as DeclaredBox>⟧.layout.content b) };
+    ghost whole = { λ view b. ⟦<SaioShape as NamedShape>⟧.whole NAMES.now view
+        (⟦<Saio as DeclaredBox>⟧.layout.content b) };
 
     fn show<K: FieldSink>(&self, view: View, sink: &mut K) -> mp4_shown::Result<()> {
         let parts = parts_of!(self => version, flags, aux_info_type, aux_info_type_parameter,
             offsets.as_slice());
-        SaioShape::show(NAMES, view, parts, sink)
+        SaioShape::show(NAMES, view, &parts, sink)
     }
 }
 

@@ -76,7 +76,7 @@ impl DeclaredBox for Saiz {
 const AUXILIARY_FLAGS: &[Meaning] = &[(0x1, "aux_info_type")];
 
 /// The names of the fields.
-const NAMES: <SaizShape as NamedShape>::Names = names_of!(
+const NAMES: &<SaizShape as NamedShape>::Names = &names_of!(
     VERSION,
     number!("flags", Flags(6), AUXILIARY_FLAGS),
     "aux_info_type",
@@ -87,14 +87,16 @@ const NAMES: <SaizShape as NamedShape>::Names = names_of!(
 );
 
 impl HasFields for Saiz {
-    ghost shown = { λ view b. ⟦<SaizShape as NamedShape>⟧.shown NAMES view (⟦<Saiz as DeclaredBox>⟧.layout.content b) };
+    ghost shown = { λ view b. ⟦<SaizShape as NamedShape>⟧.shown NAMES.now view
+        (⟦<Saiz as DeclaredBox>⟧.layout.content b) };
 
-    ghost whole = { λ view b. ⟦<SaizShape as NamedShape>⟧.whole NAMES view (⟦<Saiz as DeclaredBox>⟧.layout.content b) };
+    ghost whole = { λ view b. ⟦<SaizShape as NamedShape>⟧.whole NAMES.now view
+        (⟦<Saiz as DeclaredBox>⟧.layout.content b) };
 
     fn show<K: FieldSink>(&self, view: View, sink: &mut K) -> mp4_shown::Result<()> {
         let parts = parts_of!(self => version, flags, aux_info_type, aux_info_type_parameter,
             default_sample_info_size, sample_count, sample_info_sizes.as_slice());
-        SaizShape::show(NAMES, view, parts, sink)
+        SaizShape::show(NAMES, view, &parts, sink)
     }
 }
 

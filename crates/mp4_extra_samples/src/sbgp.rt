@@ -102,7 +102,7 @@ impl DeclaredBox for Sbgp {
 const RUN: &[NumberName] = &[number!("sample_count"), number!("group_description_index")];
 
 /// The names of the fields.
-const NAMES: <SbgpShape as NamedShape>::Names = names_of!(
+const NAMES: &<SbgpShape as NamedShape>::Names = &names_of!(
     VERSION,
     FLAGS,
     "grouping_type",
@@ -111,14 +111,16 @@ const NAMES: <SbgpShape as NamedShape>::Names = names_of!(
 );
 
 impl HasFields for Sbgp {
-    ghost shown = { λ view b. ⟦<SbgpShape as NamedShape>⟧.shown NAMES view (⟦<Sbgp as DeclaredBox>⟧.layout.content b) };
+    ghost shown = { λ view b. ⟦<SbgpShape as NamedShape>⟧.shown NAMES.now view
+        (⟦<Sbgp as DeclaredBox>⟧.layout.content b) };
 
-    ghost whole = { λ view b. ⟦<SbgpShape as NamedShape>⟧.whole NAMES view (⟦<Sbgp as DeclaredBox>⟧.layout.content b) };
+    ghost whole = { λ view b. ⟦<SbgpShape as NamedShape>⟧.whole NAMES.now view
+        (⟦<Sbgp as DeclaredBox>⟧.layout.content b) };
 
     fn show<K: FieldSink>(&self, view: View, sink: &mut K) -> mp4_shown::Result<()> {
         let parts = parts_of!(self => version, flags, grouping_type, grouping_type_parameter,
             entries.as_slice());
-        SbgpShape::show(NAMES, view, parts, sink)
+        SbgpShape::show(NAMES, view, &parts, sink)
     }
 }
 

@@ -99,20 +99,22 @@ const SAMPLE: &[NumberName] = &[
 ];
 
 /// The names of the fields.
-const NAMES: <SdtpShape as NamedShape>::Names = names_of!(
+const NAMES: &<SdtpShape as NamedShape>::Names = &names_of!(
     VERSION,
     FLAGS,
     (list!("entries"), SAMPLE)
 );
 
 impl HasFields for Sdtp {
-    ghost shown = { λ view b. ⟦<SdtpShape as NamedShape>⟧.shown NAMES view (⟦<Sdtp as DeclaredBox>⟧.layout.content b) };
+    ghost shown = { λ view b. ⟦<SdtpShape as NamedShape>⟧.shown NAMES.now view
+        (⟦<Sdtp as DeclaredBox>⟧.layout.content b) };
 
-    ghost whole = { λ view b. ⟦<SdtpShape as NamedShape>⟧.whole NAMES view (⟦<Sdtp as DeclaredBox>⟧.layout.content b) };
+    ghost whole = { λ view b. ⟦<SdtpShape as NamedShape>⟧.whole NAMES.now view
+        (⟦<Sdtp as DeclaredBox>⟧.layout.content b) };
 
     fn show<K: FieldSink>(&self, view: View, sink: &mut K) -> mp4_shown::Result<()> {
         let parts = parts_of!(self => version, flags, entries.as_slice());
-        SdtpShape::show(NAMES, view, parts, sink)
+        SdtpShape::show(NAMES, view, &parts, sink)
     }
 }
 

@@ -60,7 +60,7 @@ impl DeclaredBox for Senc {
 const ENCRYPTION_FLAGS: &[Meaning] = &[(0x2, "UseSubSampleEncryption")];
 
 /// The names of the fields.
-const NAMES: <SencShape as NamedShape>::Names = names_of!(
+const NAMES: &<SencShape as NamedShape>::Names = &names_of!(
     VERSION,
     number!("flags", Flags(6), ENCRYPTION_FLAGS),
     number!("sample_count"),
@@ -68,13 +68,15 @@ const NAMES: <SencShape as NamedShape>::Names = names_of!(
 );
 
 impl HasFields for Senc {
-    ghost shown = { λ view b. ⟦<SencShape as NamedShape>⟧.shown NAMES view (⟦<Senc as DeclaredBox>⟧.layout.content b) };
+    ghost shown = { λ view b. ⟦<SencShape as NamedShape>⟧.shown NAMES.now view
+        (⟦<Senc as DeclaredBox>⟧.layout.content b) };
 
-    ghost whole = { λ view b. ⟦<SencShape as NamedShape>⟧.whole NAMES view (⟦<Senc as DeclaredBox>⟧.layout.content b) };
+    ghost whole = { λ view b. ⟦<SencShape as NamedShape>⟧.whole NAMES.now view
+        (⟦<Senc as DeclaredBox>⟧.layout.content b) };
 
     fn show<K: FieldSink>(&self, view: View, sink: &mut K) -> mp4_shown::Result<()> {
         let parts = parts_of!(self => version, flags, sample_count, samples.as_slice());
-        SencShape::show(NAMES, view, parts, sink)
+        SencShape::show(NAMES, view, &parts, sink)
     }
 }
 

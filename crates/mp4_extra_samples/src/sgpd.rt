@@ -419,7 +419,7 @@ type SgpdShown = Full<
 >;
 
 /// The names of the fields.
-const NAMES: <SgpdShown as NamedShape>::Names = (
+const NAMES: &<SgpdShown as NamedShape>::Names = &(
     VERSION,
     (
         FLAGS,
@@ -443,7 +443,7 @@ const NAMES: <SgpdShown as NamedShape>::Names = (
 );
 
 impl HasFields for Sgpd {
-    ghost shown = { λ view b. ⟦<SgpdShown as NamedShape>⟧.shown NAMES view (
+    ghost shown = { λ view b. ⟦<SgpdShown as NamedShape>⟧.shown NAMES.now view (
       b.version,
       (
         b.flags,
@@ -466,7 +466,7 @@ impl HasFields for Sgpd {
       ),
     ) };
 
-    ghost whole = { λ view b. ⟦<SgpdShown as NamedShape>⟧.whole NAMES view (
+    ghost whole = { λ view b. ⟦<SgpdShown as NamedShape>⟧.whole NAMES.now view (
       b.version,
       (
         b.flags,
@@ -506,7 +506,7 @@ impl HasFields for Sgpd {
             ),
         );
         let parts = (self.version, (self.flags, (self.grouping_type, optional)));
-        SgpdShown::show(NAMES, view, parts, sink)
+        SgpdShown::show(NAMES, view, &parts, sink)
     }
 }
 

@@ -176,13 +176,13 @@ impl<'a> ShowShape<(u8, (u32, &'a [u8]))> for SampleSizes {
     ghost content = { λ v. (v.0, (v.1.0, v.1.1.now)) };
 
     fn show<K: FieldSink>(
-        names: SizesNames,
+        names: &SizesNames,
         view: View,
-        value: (u8, (u32, &'a [u8])),
+        value: &(u8, (u32, &'a [u8])),
         sink: &mut K,
     ) -> mp4_shown::Result<()> {
-        let (name, (padding_name, (too_few, rest))) = names;
-        let (bits, (count, bytes)) = value;
+        let (name, (padding_name, (too_few, rest))) = *names;
+        let (bits, (count, bytes)) = *value;
         if !are_sizes(bits, count, bytes) {
             return put_bytes(too_few, view.rows, bytes, sink);
         }
@@ -198,7 +198,7 @@ impl<'a> ShowShape<(u8, (u32, &'a [u8]))> for SampleSizes {
 type Stz2Shown = Full<1, (U8, U32, SampleSizes)>;
 
 /// The names of the fields.
-const NAMES: <Stz2Shown as NamedShape>::Names = (
+const NAMES: &<Stz2Shown as NamedShape>::Names = &(
     VERSION,
     (
         FLAGS,
@@ -219,7 +219,7 @@ const NAMES: <Stz2Shown as NamedShape>::Names = (
 );
 
 impl HasFields for Stz2 {
-    ghost shown = { λ view b. ⟦<Stz2Shown as NamedShape>⟧.shown NAMES view (
+    ghost shown = { λ view b. ⟦<Stz2Shown as NamedShape>⟧.shown NAMES.now view (
       b.version,
       (
         b.flags,
@@ -230,7 +230,7 @@ impl HasFields for Stz2 {
       ),
     ) };
 
-    ghost whole = { λ view b. ⟦<Stz2Shown as NamedShape>⟧.whole NAMES view (
+    ghost whole = { λ view b. ⟦<Stz2Shown as NamedShape>⟧.whole NAMES.now view (
       b.version,
       (
         b.flags,
@@ -247,7 +247,7 @@ impl HasFields for Stz2 {
             (self.sample_count, self.entry_sizes.as_slice()),
         );
         let numbers = (self.field_size, (self.sample_count, sizes));
-        Stz2Shown::show(NAMES, view, (self.version, (self.flags, numbers)), sink)
+        Stz2Shown::show(NAMES, view, &(self.version, (self.flags, numbers)), sink)
     }
 }
 

@@ -122,25 +122,25 @@ const PART: &[NumberName] = &[
 ];
 
 /// The names of the fields of a sample.
-const SAMPLE: <SubsEntryShape as NamedShape>::Names = names_of!(
+const SAMPLE: &<SubsEntryShape as NamedShape>::Names = &names_of!(
     number!("sample_delta"),
     (list!("subsamples"), PART)
 );
 
 impl ShownEntry for SubsEntry {
-    ghost shown = { λ view x. entry_of (⟦<SubsEntryShape as NamedShape>⟧.shown SAMPLE view
+    ghost shown = { λ view x. entry_of (⟦<SubsEntryShape as NamedShape>⟧.shown SAMPLE.now view
         (⟦<SubsEntry as DeclaredEntry>⟧.layout.content x)) };
 
-    ghost whole = { λ view x. whole_entry (⟦<SubsEntryShape as NamedShape>⟧.shown SAMPLE view
+    ghost whole = { λ view x. whole_entry (⟦<SubsEntryShape as NamedShape>⟧.shown SAMPLE.now view
         (⟦<SubsEntry as DeclaredEntry>⟧.layout.content x))
-        (⟦<SubsEntryShape as NamedShape>⟧.whole SAMPLE view (⟦<SubsEntry as DeclaredEntry>⟧.layout.content x)) };
+        (⟦<SubsEntryShape as NamedShape>⟧.whole SAMPLE.now view (⟦<SubsEntry as DeclaredEntry>⟧.layout.content x)) };
 
     fn show<K: FieldSink>(&self, view: View, sink: &mut K) -> mp4_shown::Result<()> {
         sink.begin_entry()?;
         SubsEntryShape::show(
             SAMPLE,
             view,
-            parts_of!(self => sample_delta, subsamples.as_slice()),
+            &parts_of!(self => sample_delta, subsamples.as_slice()),
             sink,
         )?;
         sink.end_entry()
@@ -194,20 +194,22 @@ impl DeclaredBox for Subs {
 }
 
 /// The names of the fields.
-const NAMES: <SubsShape as NamedShape>::Names = names_of!(
+const NAMES: &<SubsShape as NamedShape>::Names = &names_of!(
     VERSION,
     FLAGS,
     list!("entries", Counted, "entry_count")
 );
 
 impl HasFields for Subs {
-    ghost shown = { λ view b. ⟦<SubsShape as NamedShape>⟧.shown NAMES view (⟦<Subs as DeclaredBox>⟧.layout.content b) };
+    ghost shown = { λ view b. ⟦<SubsShape as NamedShape>⟧.shown NAMES.now view
+        (⟦<Subs as DeclaredBox>⟧.layout.content b) };
 
-    ghost whole = { λ view b. ⟦<SubsShape as NamedShape>⟧.whole NAMES view (⟦<Subs as DeclaredBox>⟧.layout.content b) };
+    ghost whole = { λ view b. ⟦<SubsShape as NamedShape>⟧.whole NAMES.now view
+        (⟦<Subs as DeclaredBox>⟧.layout.content b) };
 
     fn show<K: FieldSink>(&self, view: View, sink: &mut K) -> mp4_shown::Result<()> {
         let parts = parts_of!(self => version, flags, entries.as_slice());
-        SubsShape::show(NAMES, view, parts, sink)
+        SubsShape::show(NAMES, view, &parts, sink)
     }
 }
 
