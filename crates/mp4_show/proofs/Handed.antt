@@ -5,7 +5,7 @@ use Rattle.std.specs.List.{fold}
 use Rattle.std.proofs.lemmas.List.Sums.{fold-append}
 use Rattle.mp4_shown.specs.Event.{Event}
 use Rattle.mp4_shown.specs.Hands.{Hands}
-use Rattle.mp4_shown.specs.Members.{AreMembers, HandsMembers, members_append}
+use Rattle.mp4_shown.specs.Members.{AreMembers, HandsMembers}
 
 module _ {S T : Type 0} (trace : S → T) (after : T → Event → T) where
   -- whole members are handed over, if all events could be
@@ -18,12 +18,10 @@ module _ {S T : Type 0} (trace : S → T) (after : T → Event → T) where
   pub no_members : (old : S) → HandsMembers trace after old old
   no_members old = ([], λ s. refl, refl)
 
-  -- whole members and more of them are whole members
-  pub more_members : {E : Type 0} (r : Result (Unit {0}) E) (old mid new : S) → HandsMembers trace after old mid
-      → OnOk r (HandsMembers trace after mid new) → OnOk r (HandsMembers trace after old new)
-  more_members (Ok _) old mid new (xs, whole_xs, first) (ys, whole_ys, second) = (
-    xs ++ ys,
-    members_append xs ys whole_xs whole_ys,
-    second ∙ ap (λ (t : T). fold after t ys) first ∙ sym (fold-append after (trace old) xs ys),
-  )
-  more_members (Err _) old mid new first second = tt
+  -- these events and then others are their list
+  pub hands_more : {E : Type 0} (r : Result (Unit {0}) E) (xs ys : List Event) (old mid new : S)
+      → Hands trace after old xs mid → OnOk r (Hands trace after mid ys new)
+      → OnOk r (Hands trace after old (xs ++ ys) new)
+  hands_more (Ok _) xs ys old mid new first second =
+      second ∙ ap (λ (t : T). fold after t ys) first ∙ sym (fold-append after (trace old) xs ys)
+  hands_more (Err _) xs ys old mid new first second = tt

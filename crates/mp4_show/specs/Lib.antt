@@ -1,8 +1,15 @@
 pub mod Escaped
 pub mod Language
+pub mod Row
 pub mod Lists
 pub mod Edits
 pub mod Run
+pub mod BoxRows
+pub mod EntryRows
+pub mod SampleRows
+pub mod SoundRows
+pub mod Descriptions
 pub mod Metadata
 pub mod Fronts
+pub mod FrontRows
 pub mod SoundFront

@@ -12,7 +12,7 @@ mod sound;
 mod tracks;
 
 use crate::box_fields::BoxFields;
-pub(crate) use media::{URL, UrlShown};
+pub(crate) use media::URL;
 use mp4_shown::{FieldSink, Result, View};
 use mp4_stream::{
     AnyBox, Avc1Box, AvcCBox, Co64Box, CttsBox, DataBox, DinfBox, DrefBox, ElstBox, EmsgBox,
@@ -20,7 +20,7 @@ use mp4_stream::{
     SmhdBox, StcoBox, StscBox, StsdBox, StssBox, StszBox, SttsBox, TfdtBox, TfhdBox, TkhdBox,
     TrexBox, TrunBox, Tx3gBox, UrlBox, VmhdBox, Vp09Box, VpccBox,
 };
-pub(crate) use tracks::{HDLR, HdlrShown};
+pub(crate) use tracks::HDLR;
 
 /// A box is shown as the box inside.
 impl BoxFields for AnyBox {

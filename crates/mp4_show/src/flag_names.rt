@@ -3,7 +3,7 @@
 use mp4_shown::Meaning;
 
 /// The flags of a track header (ISO/IEC 14496-12, 8.3.2.3).
-pub const TRACK: &[Meaning] = &[
+pub(crate) const TRACK: &[Meaning] = &[
     (0x1, "enabled"),
     (0x2, "in_movie"),
     (0x4, "in_preview"),
@@ -11,7 +11,7 @@ pub const TRACK: &[Meaning] = &[
 ];
 
 /// The flags of a track fragment header (ISO/IEC 14496-12, 8.8.7.1).
-pub const TRACK_FRAGMENT: &[Meaning] = &[
+pub(crate) const TRACK_FRAGMENT: &[Meaning] = &[
     (0x1, "base_data_offset"),
     (0x2, "sample_description_index"),
     (0x8, "default_sample_duration"),
@@ -22,7 +22,7 @@ pub const TRACK_FRAGMENT: &[Meaning] = &[
 ];
 
 /// The flags of a track run (ISO/IEC 14496-12, 8.8.8.1).
-pub const TRACK_RUN: &[Meaning] = &[
+pub(crate) const TRACK_RUN: &[Meaning] = &[
     (0x1, "data_offset"),
     (0x4, "first_sample_flags"),
     (0x100, "sample_duration"),
@@ -32,7 +32,7 @@ pub const TRACK_RUN: &[Meaning] = &[
 ];
 
 /// The flags of a reference to media data (ISO/IEC 14496-12, 8.7.2.1).
-pub const REFERENCE: &[Meaning] = &[(0x1, "same_file")];
+pub(crate) const REFERENCE: &[Meaning] = &[(0x1, "same_file")];
 
 /// The flag of a sample that has a bit of its own (ISO/IEC 14496-12, 8.8.3.1).
-pub const SAMPLE: &[Meaning] = &[(0x1_0000, "non_sync")];
+pub(crate) const SAMPLE: &[Meaning] = &[(0x1_0000, "non_sync")];

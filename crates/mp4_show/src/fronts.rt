@@ -1,74 +1,63 @@
 //! Fields that are read from bytes: those that begin a box that holds boxes, those of sample entries of any code, and
 //! those of a handler and of a reference, with their texts as they are.
 
-ghost use Rattle.std.specs.Prelude.{◌≡◌, ◌≤◌, OnOk, drop, length, slice_range};
-ghost use Rattle.mp4_frame.specs.Bytes.{number};
-ghost use Rattle.mp4_frame.specs.FourCC.{four_cc_of};
+ghost use Rattle.std.specs.Prelude.{◌≡◌, ◌≤◌, ◌∷◌, [], OnOk, drop, length, slice_range};
+ghost use Rattle.mp4_show.specs.FrontRows.{entry_row, handler_row, head_row, list_row, reference_row, visual_row};
 ghost use Rattle.mp4_show.specs.Fronts.{compressor, handler_name, location};
+ghost use Rattle.mp4_show.specs.Row.{number, shown_row, text as as_text};
 ghost use Rattle.mp4_show.specs.declared.fields.media.TheConstants.{URL};
 ghost use Rattle.mp4_show.specs.declared.fields.tracks.TheConstants.{HDLR};
-ghost use Rattle.mp4_show.specs.declared.fronts.TheConstants.{ENTRY, FULL_HEAD, LIST, TERMINATOR, USERTYPE, VISUAL};
+ghost use Rattle.mp4_show.specs.declared.fronts.TheConstants.{ENTRY, LIST, TERMINATOR, USERTYPE, VISUAL};
+ghost use Rattle.mp4_show.specs.declared.row.TheConstants.{FULL};
 ghost use Rattle.mp4_shown.specs.Hands.{Hands};
 ghost use Rattle.mp4_shown.specs.Members.{HandsMembers};
 ghost use Rattle.mp4_shown.specs.Runs.{unended};
 
-use crate::fields::{HDLR, HdlrShown, URL, UrlShown};
-use crate::put_parts::put_parts;
-use crate::shapes::LossyText;
-use mp4_declared::{Full, Last, U8, U16, U24, U32};
+use crate::fields::{HDLR, URL};
+use crate::row::{FULL, Part, field, put_members};
 use mp4_frame::{u8_at, u16_at, u24_at, u32_at};
-use mp4_shown::{FLAGS, FieldSink, NamedShape, Result, VERSION, names_of, number};
+use mp4_shown::{FLAGS, FieldSink, NumberName, Result, VERSION, number};
 use mp4_stream::FourCC;
 
-/// The front of a full box: version and flags (ISO/IEC 14496-12, 4.2).
-type FullShown = (U8, Last<U24>);
-
-/// The names of its fields.
-const FULL_HEAD: <FullShown as NamedShape>::Names = names_of!(VERSION, FLAGS);
-
-/// Hands version and flags to a sink. They are the first 4 bytes of the content of a full box.
+/// Hands version and flags to a sink (ISO/IEC 14496-12, 4.2). They are the first 4 bytes of the content of a full box.
 pub fn put_full_head<K: FieldSink>(bytes: &[u8], sink: &mut K) -> Result<()>
     requires { 4 ≤ length bytes.now }
-    ensures fields { OnOk result (Hands K.trace K.after sink.old (⟦<FullShown as NamedShape>⟧.shown FULL_HEAD
-        (K.wanted sink.old) (number bytes.now 0 1, (number bytes.now 1 3, tt))) sink.new) }
+    ensures fields { OnOk result (Hands K.trace K.after sink.old (shown_row FULL.now (head_row bytes.now)) sink.new) }
     ensures whole { OnOk result (HandsMembers K.trace K.after sink.old sink.new) }
 {
-    let parts = (u8_at(bytes, 0), (u24_at(bytes, 1), ()));
-    put_parts::<FullShown, _, K>(FULL_HEAD, parts, sink)
+    let parts = [Part::U8(u8_at(bytes, 0)), Part::U32(u24_at(bytes, 1))];
+    put_members(FULL, &parts, sink)
 }
 
 /// The front of an `stsd` or a `dref`: version, flags and the number of boxes that it states (ISO/IEC 14496-12, 8.5.2
 /// and 8.7.2).
-type ListShown = Full<256, Last<U32>>;
-
-/// The names of its fields.
-const LIST: <ListShown as NamedShape>::Names = names_of!(VERSION, FLAGS, number!("entry_count"));
+const LIST: &[NumberName] = &[VERSION, FLAGS, number!("entry_count")];
 
 /// Hands the fields before the boxes of an `stsd` or a `dref` to a sink. They are the first 8 bytes of its content.
 pub fn put_list_head<K: FieldSink>(bytes: &[u8], sink: &mut K) -> Result<()>
     requires { 8 ≤ length bytes.now }
-    ensures fields { OnOk result (Hands K.trace K.after sink.old (⟦<ListShown as NamedShape>⟧.shown LIST
-        (K.wanted sink.old) (number bytes.now 0 1, (number bytes.now 1 3, (number bytes.now 4 4, tt)))) sink.new) }
+    ensures fields { OnOk result (Hands K.trace K.after sink.old (shown_row LIST.now (list_row bytes.now)) sink.new) }
     ensures whole { OnOk result (HandsMembers K.trace K.after sink.old sink.new) }
 {
-    let parts = (u8_at(bytes, 0), (u24_at(bytes, 1), (u32_at(bytes, 4), ())));
-    put_parts::<ListShown, _, K>(LIST, parts, sink)
+    let parts = [
+        Part::U8(u8_at(bytes, 0)),
+        Part::U32(u24_at(bytes, 1)),
+        Part::U32(u32_at(bytes, 4)),
+    ];
+    put_members(LIST, &parts, sink)
 }
 
 /// The field that all sample entries have (ISO/IEC 14496-12, 8.5.2).
-type EntryShown = Last<U16>;
-
-/// Its name.
-const ENTRY: <EntryShown as NamedShape>::Names = names_of!(number!("data_reference_index"));
+const ENTRY: &[NumberName] = &[number!("data_reference_index")];
 
 /// Hands the field that all sample entries have to a sink. It ends at byte 8 of the content.
 pub fn put_entry<K: FieldSink>(bytes: &[u8], sink: &mut K) -> Result<()>
     requires { 8 ≤ length bytes.now }
-    ensures fields { OnOk result (Hands K.trace K.after sink.old (⟦<EntryShown as NamedShape>⟧.shown ENTRY
-        (K.wanted sink.old) (number bytes.now 6 2, tt)) sink.new) }
+    ensures fields { OnOk result (Hands K.trace K.after sink.old (shown_row ENTRY.now (entry_row bytes.now)) sink.new) }
     ensures whole { OnOk result (HandsMembers K.trace K.after sink.old sink.new) }
 {
-    put_parts::<EntryShown, _, K>(ENTRY, (u16_at(bytes, 6), ()), sink)
+    let parts = [Part::U16(u16_at(bytes, 6))];
+    put_members(ENTRY, &parts, sink)
 }
 
 /// Returns the text of a compressor's name: a byte that says how long it is, and at most 31 bytes.
@@ -82,19 +71,16 @@ fn compressor(bytes: &[u8]) -> &[u8]
 }
 
 /// The common fields of a sample entry of video (ISO/IEC 14496-12, 12.1.3).
-type VisualShown = (U16, U16, U16, U32, (U32, U16, LossyText, Last<U16>));
-
-/// Their names.
-const VISUAL: <VisualShown as NamedShape>::Names = names_of!(
+const VISUAL: &[NumberName] = &[
     number!("data_reference_index"),
     number!("width"),
     number!("height"),
     number!("horizresolution", Fixed(16)),
     number!("vertresolution", Fixed(16)),
     number!("frame_count"),
-    "compressorname",
-    number!("depth")
-);
+    field!("compressorname"),
+    number!("depth"),
+];
 
 /// Returns the text of the compressor's name in the content of a sample entry of video.
 fn compressor_of(bytes: &[u8]) -> &[u8]
@@ -107,33 +93,21 @@ fn compressor_of(bytes: &[u8]) -> &[u8]
 /// Hands the common fields of a sample entry of video to a sink. They are the first 78 bytes of its content.
 pub fn put_visual<K: FieldSink>(bytes: &[u8], sink: &mut K) -> Result<()>
     requires { 78 ≤ length bytes.now }
-    ensures fields { OnOk result (Hands K.trace K.after sink.old (⟦<VisualShown as NamedShape>⟧.shown VISUAL
-        (K.wanted sink.old) (
-          number bytes.now 6 2,
-          (
-            number bytes.now 24 2,
-            (
-              number bytes.now 26 2,
-              (
-                number bytes.now 28 4,
-                (
-                  number bytes.now 32 4,
-                  (
-                    number bytes.now 40 2,
-                    (compressor (slice_range bytes.now 42 74), (number bytes.now 74 2, tt)),
-                  ),
-                ),
-              ),
-            ),
-          ),
-        )) sink.new) }
+    ensures fields { OnOk result (Hands K.trace K.after sink.old
+        (shown_row VISUAL.now (visual_row bytes.now)) sink.new) }
     ensures whole { OnOk result (HandsMembers K.trace K.after sink.old sink.new) }
 {
-    let name = compressor_of(bytes);
-    let after = (u16_at(bytes, 40), (name, (u16_at(bytes, 74), ())));
-    let resolutions = (u32_at(bytes, 28), (u32_at(bytes, 32), after));
-    let sizes = (u16_at(bytes, 24), (u16_at(bytes, 26), resolutions));
-    put_parts::<VisualShown, _, K>(VISUAL, (u16_at(bytes, 6), sizes), sink)
+    let parts = [
+        Part::U16(u16_at(bytes, 6)),
+        Part::U16(u16_at(bytes, 24)),
+        Part::U16(u16_at(bytes, 26)),
+        Part::U32(u32_at(bytes, 28)),
+        Part::U32(u32_at(bytes, 32)),
+        Part::U16(u16_at(bytes, 40)),
+        Part::Text(compressor_of(bytes)),
+        Part::U16(u16_at(bytes, 74)),
+    ];
+    put_members(VISUAL, &parts, sink)
 }
 
 /// Returns `bytes` without a last byte of 0.
@@ -177,23 +151,17 @@ fn name_of(bytes: &[u8]) -> &[u8]
 /// of which these bytes are the content.
 pub fn put_handler<K: FieldSink>(bytes: &[u8], sink: &mut K) -> Result<()>
     requires { 25 ≤ length bytes.now }
-    ensures fields { OnOk result (Hands K.trace K.after sink.old (⟦<HdlrShown as NamedShape>⟧.shown HDLR
-        (K.wanted sink.old) (
-          number bytes.now 0 1,
-          (
-            number bytes.now 1 3,
-            (four_cc_of (number bytes.now 8 4), (handler_name (drop 24 bytes.now), tt)),
-          ),
-        )) sink.new) }
+    ensures fields { OnOk result (Hands K.trace K.after sink.old
+        (shown_row HDLR.now (handler_row bytes.now)) sink.new) }
     ensures whole { OnOk result (HandsMembers K.trace K.after sink.old sink.new) }
 {
-    let name = name_of(bytes);
-    let handler_type = FourCC::from(u32_at(bytes, 8));
-    let parts = (
-        u8_at(bytes, 0),
-        (u24_at(bytes, 1), (handler_type, (name, ()))),
-    );
-    put_parts::<HdlrShown, _, K>(HDLR, parts, sink)
+    let parts = [
+        Part::U8(u8_at(bytes, 0)),
+        Part::U32(u24_at(bytes, 1)),
+        Part::Code(FourCC::from(u32_at(bytes, 8))),
+        Part::Text(name_of(bytes)),
+    ];
+    put_members(HDLR, &parts, sink)
 }
 
 /// Returns the location in the content of a `url `: the bytes after version and flags, up to the last byte, which ends
@@ -210,40 +178,39 @@ fn location(bytes: &[u8]) -> &[u8]
 /// content.
 pub fn put_reference<K: FieldSink>(bytes: &[u8], sink: &mut K) -> Result<()>
     requires { 4 ≤ length bytes.now }
-    ensures fields { OnOk result (Hands K.trace K.after sink.old (⟦<UrlShown as NamedShape>⟧.shown URL
-        (K.wanted sink.old) (number bytes.now 0 1, (number bytes.now 1 3, (location bytes.now, tt)))) sink.new) }
+    ensures fields { OnOk result (Hands K.trace K.after sink.old
+        (shown_row URL.now (reference_row bytes.now)) sink.new) }
     ensures whole { OnOk result (HandsMembers K.trace K.after sink.old sink.new) }
 {
-    let parts = (u8_at(bytes, 0), (u24_at(bytes, 1), (location(bytes), ())));
-    put_parts::<UrlShown, _, K>(URL, parts, sink)
+    let parts = [
+        Part::U8(u8_at(bytes, 0)),
+        Part::U32(u24_at(bytes, 1)),
+        Part::Text(location(bytes)),
+    ];
+    put_members(URL, &parts, sink)
 }
 
 /// The type of a `uuid` box (ISO/IEC 14496-12, 4.2).
-type UsertypeShown = Last<LossyText>;
-
-/// Its name.
-const USERTYPE: <UsertypeShown as NamedShape>::Names = names_of!("usertype");
+const USERTYPE: &[NumberName] = &[field!("usertype")];
 
 /// Hands `text`, the type of a `uuid` box, to a sink.
 pub fn put_usertype<K: FieldSink>(text: &[u8], sink: &mut K) -> Result<()>
-    ensures fields { OnOk result (Hands K.trace K.after sink.old (⟦<UsertypeShown as NamedShape>⟧.shown USERTYPE
-        (K.wanted sink.old) (text.now, tt)) sink.new) }
+    ensures fields { OnOk result (Hands K.trace K.after sink.old
+        (shown_row USERTYPE.now (as_text text.now ∷ [])) sink.new) }
     ensures whole { OnOk result (HandsMembers K.trace K.after sink.old sink.new) }
 {
-    put_parts::<UsertypeShown, _, K>(USERTYPE, (text, ()), sink)
+    let parts = [Part::Text(text)];
+    put_members(USERTYPE, &parts, sink)
 }
 
 /// The four zero bytes that may end a box of QuickTime.
-type TerminatorShown = Last<U32>;
-
-/// Their name.
-const TERMINATOR: <TerminatorShown as NamedShape>::Names = names_of!(number!("terminator"));
+const TERMINATOR: &[NumberName] = &[number!("terminator")];
 
 /// Hands the four zero bytes that may end a box of QuickTime to a sink, as a number.
 pub fn put_terminator<K: FieldSink>(sink: &mut K) -> Result<()>
-    ensures fields { OnOk result (Hands K.trace K.after sink.old (⟦<TerminatorShown as NamedShape>⟧.shown TERMINATOR
-        (K.wanted sink.old) (0, tt)) sink.new) }
+    ensures fields { OnOk result (Hands K.trace K.after sink.old (shown_row TERMINATOR.now (number 0 ∷ [])) sink.new) }
     ensures whole { OnOk result (HandsMembers K.trace K.after sink.old sink.new) }
 {
-    put_parts::<TerminatorShown, _, K>(TERMINATOR, (0, ()), sink)
+    let parts = [Part::U32(0)];
+    put_members(TERMINATOR, &parts, sink)
 }

@@ -1,14 +1,12 @@
 //! The meaning of a media header's language.
 
-ghost use Rattle.std.proofs.Common.{refl};
 ghost use Rattle.std.specs.Prelude.{◌≡◌};
 ghost use Rattle.mp4_flat.specs.Language.{language_code};
 ghost use Rattle.mp4_show.specs.Language.{language_as, language_kind, shown_language};
-ghost use Rattle.mp4_shown.specs.Event.{Text as SeenText, seen_text, shown_of};
-ghost use Rattle.mp4_shown.specs.Shapes.{shown_as};
+ghost use Rattle.mp4_shown.specs.Event.{shown_of};
 
-use mp4_shown::{FieldSink, NamedShape, Result, ShowShape, Value, View};
-use mp4_stream::{Text, language_code};
+use mp4_shown::Value;
+use mp4_stream::language_code;
 
 /// The meaning of a language's code.
 #[derive(Clone, Copy, Debug, PartialEq, Eq)]
@@ -46,39 +44,9 @@ fn language_as(kind: LanguageKind, letters: &str, code: u16) -> Value<'_>
 }
 
 /// Returns the language whose code has these `letters`: the letters, or the code if it stands for something else.
-fn language_value(letters: &str) -> Value<'_>
+pub(crate) fn language_value(letters: &str) -> Value<'_>
     ensures { shown_of result ≡ shown_language letters.now }
 {
     let code = language_code(letters);
     language_as(language_kind(code), letters, code)
-}
-
-/// The letters of a language, for showing only.
-pub struct Language;
-
-impl NamedShape for Language {
-    type Value = Text;
-
-    type Names = &'static str;
-
-    ghost Seen = { SeenText };
-
-    ghost seen = { seen_text };
-
-    ghost shown = { λ name view letters. shown_as name.now (shown_language letters) };
-
-    ghost whole = { λ name view letters s. refl };
-}
-
-impl<'a> ShowShape<&'a Text> for Language {
-    ghost content = { λ letters. letters.now };
-
-    fn show<K: FieldSink>(
-        name: &'static str,
-        _view: View,
-        value: &'a Text,
-        sink: &mut K,
-    ) -> Result<()> {
-        sink.field(name, language_value(value.as_str()))
-    }
 }

@@ -4,7 +4,6 @@
 mod box_fields;
 mod code;
 mod either;
-mod entries_in;
 mod escape;
 mod escaped_json;
 mod fields;
@@ -15,8 +14,7 @@ mod lists;
 mod look;
 mod number_text;
 mod placed;
-mod put_parts;
-mod shapes;
+mod row;
 mod sound_front;
 mod text_sink;
 mod value;

@@ -23,13 +23,13 @@ pub fn push_number(number: u64, out: &mut String) -> Result<()>
 }
 
 /// Appends a number that may be negative.
-pub fn push_signed(number: i64, out: &mut String) -> Result<()> {
+pub(crate) fn push_signed(number: i64, out: &mut String) -> Result<()> {
     let mut buffer = itoa::Buffer::new();
     out.push_str(buffer.format(number))
 }
 
 /// Appends a fixed-point number that may be negative, in the form of `push_fixed`.
-pub fn push_signed_fixed(number: i64, bits: u32, out: &mut String) -> Result<()> {
+pub(crate) fn push_signed_fixed(number: i64, bits: u32, out: &mut String) -> Result<()> {
     if number < 0 {
         out.push('-')?;
     }
@@ -37,7 +37,7 @@ pub fn push_signed_fixed(number: i64, bits: u32, out: &mut String) -> Result<()>
 }
 
 /// Appends a fixed-point number as an exact decimal: `number` has this many bits after the point, at most 30.
-pub fn push_fixed(number: u64, bits: u32, out: &mut String) -> Result<()> {
+pub(crate) fn push_fixed(number: u64, bits: u32, out: &mut String) -> Result<()> {
     let bits = bits.min(30);
     let one = 1u64 << bits;
     push_number(number / one, out)?;
@@ -58,13 +58,13 @@ pub fn push_fixed(number: u64, bits: u32, out: &mut String) -> Result<()> {
 }
 
 /// Appends a number with 64 bits of IEEE 754 as a decimal that reads back as the same number.
-pub fn push_float(alloc: Global, number: f64, out: &mut String) -> Result<()> {
+pub(crate) fn push_float(alloc: Global, number: f64, out: &mut String) -> Result<()> {
     let text = format!(in alloc; "{number}")?;
     out.push_str(text.as_str())
 }
 
 /// Appends a number in hexadecimal digits, at least so many.
-pub fn push_hex(alloc: Global, number: u64, digits: usize, out: &mut String) -> Result<()> {
+pub(crate) fn push_hex(alloc: Global, number: u64, digits: usize, out: &mut String) -> Result<()> {
     let text = if digits > 6 {
         format!(in alloc; "0x{number:08x}")?
     } else {
@@ -81,7 +81,7 @@ fn instant(seconds: u64) -> Option<Timestamp> {
 
 /// Appends a date, as ISO 8601 has it, and the number of seconds since 1904; that number alone after the year 9999, and
 /// for 0, which stands for no date.
-pub fn push_date(alloc: Global, seconds: u64, out: &mut String) -> Result<()> {
+pub(crate) fn push_date(alloc: Global, seconds: u64, out: &mut String) -> Result<()> {
     if seconds != 0
         && let Some(instant) = instant(seconds)
     {
@@ -92,7 +92,7 @@ pub fn push_date(alloc: Global, seconds: u64, out: &mut String) -> Result<()> {
 }
 
 /// Appends bytes in hexadecimal digits, the first of them if there are many, and how many there are.
-pub fn push_bytes(alloc: Global, bytes: &[u8], out: &mut String) -> Result<()> {
+pub(crate) fn push_bytes(alloc: Global, bytes: &[u8], out: &mut String) -> Result<()> {
     let shown = &bytes[..bytes.len().min(MOST_BYTES)];
     if !shown.is_empty() {
         let text = hex::encode(alloc, shown)?;
@@ -132,7 +132,7 @@ fn push_all_quoted(text: &str, out: &mut String) -> Result<()> {
 }
 
 /// Appends a text between quotes, with U+FFFD for what is not UTF-8 in it.
-pub fn push_text(text: &[u8], out: &mut String) -> Result<()> {
+pub(crate) fn push_text(text: &[u8], out: &mut String) -> Result<()> {
     out.push('"')?;
     for chunk in text.utf8_chunks() {
         push_all_quoted(chunk.valid(), out)?;

@@ -10,7 +10,7 @@ ghost use Rattle.mp4_shown.specs.declared.view.View.{View};
 use mp4_shown::{FieldSink, Result, View};
 
 /// A box with entries that are found by their places.
-pub trait PlacedEntries {
+pub(crate) trait PlacedEntries {
     /// The events of the entry at a place, for a view.
     ghost shown_at: { View → Self → ℕ → List Event };
 

@@ -1,141 +1,55 @@
 //! The fields of sample entries of sound of any code, which are read from bytes.
 
-ghost use Rattle.std.proofs.Common.{refl};
-ghost use Rattle.std.specs.Prelude.{◌≡◌, ◌≤◌, ◌++◌, OnOk, length};
-ghost use Rattle.mp4_show.specs.SoundFront.{common_of, first_of, second_of, version_of};
+ghost use Rattle.std.specs.Prelude.{◌≡◌, ◌≤◌, ◌∷◌, OnOk, codes, length};
+ghost use Rattle.mp4_show.specs.Row.{shown_row};
+ghost use Rattle.mp4_show.specs.SoundFront.{first_row, second_row, shown_first, shown_second, shown_sound};
+ghost use Rattle.mp4_show.specs.SoundFront.{version_of};
 ghost use Rattle.mp4_show.specs.declared.sound_front.TheConstants.{COMMON, FIRST, SECOND};
-ghost use Rattle.mp4_shown.specs.Event.{Text, seen_text, shown_of};
+ghost use Rattle.mp4_shown.specs.Event.{field, shown_of};
 ghost use Rattle.mp4_shown.specs.Hands.{Hands};
 ghost use Rattle.mp4_shown.specs.Members.{HandsMembers};
-ghost use Rattle.mp4_shown.specs.Shapes.{shown_as};
 ghost use Rattle.mp4_shown.specs.declared.value.Value.{Value as AValue};
 
-use crate::put_parts::put_in_view;
-use crate::shapes::Optional;
-use mp4_declared::{Last, U16, U32};
+use crate::row::{Part, put_row};
 use mp4_frame::{u16_at, u32_at, u64_at};
-use mp4_shown::{FieldSink, NamedShape, Result, ShowShape, Value, View, names_of, number};
+use mp4_shown::{FieldSink, NumberName, Result, Value, number};
 use ryu::Buffer;
 use std::num::f64_from_bits_with_nan;
 
-/// A value as a sink takes it.
-struct AnyValue;
-
-impl NamedShape for AnyValue {
-    type Value = Value<'static>;
-
-    type Names = &'static str;
-
-    ghost Seen = { Text };
-
-    ghost seen = { seen_text };
-
-    ghost shown = { λ name view v. shown_as name.now (shown_of v) };
-
-    ghost whole = { λ name view v s. refl };
-}
-
-impl<'a> ShowShape<Value<'a>> for AnyValue {
-    ghost content = { λ v. v };
-
-    fn show<K: FieldSink>(
-        name: &'static str,
-        _view: View,
-        value: Value<'a>,
-        sink: &mut K,
-    ) -> Result<()> {
-        sink.field(name, value)
-    }
-}
-
 /// The common fields of a sample entry of sound (ISO/IEC 14496-12, 12.2.3), with QuickTime's version.
-type CommonShown = (U16, Optional<U16>, U16, U16, Last<U32>);
-
-/// Their names.
-const COMMON: <CommonShown as NamedShape>::Names = names_of!(
+const COMMON: &[NumberName] = &[
     number!("data_reference_index"),
     number!("version"),
     number!("channelcount"),
     number!("samplesize"),
-    number!("samplerate", Fixed(16))
-);
+    number!("samplerate", Fixed(16)),
+];
 
 /// The fields of QuickTime's version 1 after the common ones.
-type FirstShown = Optional<(U32, U32, U32, Last<U32>)>;
-
-/// Their names.
-const FIRST: <FirstShown as NamedShape>::Names = names_of!(
+const FIRST: &[NumberName] = &[
     number!("samples_per_packet"),
     number!("bytes_per_packet"),
     number!("bytes_per_frame"),
-    number!("bytes_per_sample")
-);
+    number!("bytes_per_sample"),
+];
 
-/// The fields of QuickTime's version 2 after the common ones.
-type SecondShown = Optional<(AnyValue, U32, U32, U32, (U32, Last<U32>))>;
-
-/// Their names, as that version spells them.
-const SECOND: <SecondShown as NamedShape>::Names = names_of!(
-    "audioSampleRate",
+/// The fields of QuickTime's version 2 after the common ones and the rate, as that version spells them.
+const SECOND: &[NumberName] = &[
     number!("numAudioChannels"),
     number!("constBitsPerChannel"),
     number!("formatSpecificFlags", Flags(8)),
     number!("constBytesPerAudioPacket"),
-    number!("constLPCMFramesPerAudioPacket")
-);
+    number!("constLPCMFramesPerAudioPacket"),
+];
 
 /// Returns the version, if it is wanted.
 #[tactic(auto, unfolding(crate::specs::SoundFront::version_of))]
-fn version_of(quicktime: bool, bytes: &[u8]) -> Option<u16>
+fn version_of(quicktime: bool, bytes: &[u8]) -> Option<u32>
     requires { 28 ≤ length bytes.now }
     ensures { result ≡ version_of quicktime bytes.now }
 {
     if quicktime {
-        Some(u16_at(bytes, 8))
-    } else {
-        None
-    }
-}
-
-/// Returns the common parts of a sample entry of sound. QuickTime's version is among them if `quicktime` is true.
-#[tactic(auto, unfolding(crate::specs::SoundFront::common_of))]
-fn common_of(quicktime: bool, bytes: &[u8]) -> (u16, (Option<u16>, (u16, (u16, (u32, ())))))
-    requires { 28 ≤ length bytes.now }
-    ensures { result ≡ common_of quicktime bytes.now }
-{
-    let sizes = (u16_at(bytes, 18), (u32_at(bytes, 24), ()));
-    let counts = (version_of(quicktime, bytes), (u16_at(bytes, 16), sizes));
-    (u16_at(bytes, 6), counts)
-}
-
-/// Returns the parts of QuickTime's version 1, if the entry has them.
-#[tactic(auto, unfolding(crate::specs::SoundFront::first_of))]
-fn first_of(quicktime: bool, bytes: &[u8]) -> Option<(u32, (u32, (u32, (u32, ()))))>
-    requires { 28 ≤ length bytes.now }
-    ensures { result ≡ first_of quicktime bytes.now }
-{
-    if quicktime && u16_at(bytes, 8) == 1 && bytes.len() >= 44 {
-        let after = (u32_at(bytes, 36), (u32_at(bytes, 40), ()));
-        Some((u32_at(bytes, 28), (u32_at(bytes, 32), after)))
-    } else {
-        None
-    }
-}
-
-/// Returns the parts of QuickTime's version 2 with this `rate`, if the entry has them.
-#[tactic(auto, unfolding(crate::specs::SoundFront::second_of))]
-fn second_of<'a>(
-    quicktime: bool,
-    bytes: &[u8],
-    rate: Value<'a>,
-) -> Option<(Value<'a>, (u32, (u32, (u32, (u32, (u32, ()))))))>
-    requires { 28 ≤ length bytes.now }
-    ensures { result ≡ second_of quicktime bytes.now rate.entry }
-{
-    if quicktime && u16_at(bytes, 8) == 2 && bytes.len() >= 64 {
-        let packets = (u32_at(bytes, 56), (u32_at(bytes, 60), ()));
-        let bits = (u32_at(bytes, 48), (u32_at(bytes, 52), packets));
-        Some((rate, (u32_at(bytes, 40), bits)))
+        Some(u32::from(u16_at(bytes, 8)))
     } else {
         None
     }
@@ -155,22 +69,76 @@ fn rate_of<'a>(bytes: &'a [u8], buffer: &'a mut Buffer) -> Value<'a> {
     }
 }
 
-/// Hands the fields of QuickTime's versions 1 and 2 to a sink, if the entry has them, with this `rate` for version 2.
-fn put_quicktime<K: FieldSink>(
+/// Hands the fields of QuickTime's version 1 to a sink.
+fn put_first_row<K: FieldSink>(bytes: &[u8], sink: &mut K) -> Result<()>
+    requires { 44 ≤ length bytes.now }
+    ensures { OnOk result (Hands K.trace K.after sink.old (shown_row FIRST.now (first_row bytes.now)) sink.new) }
+{
+    let parts = [
+        Part::U32(u32_at(bytes, 28)),
+        Part::U32(u32_at(bytes, 32)),
+        Part::U32(u32_at(bytes, 36)),
+        Part::U32(u32_at(bytes, 40)),
+    ];
+    put_row(FIRST, &parts, sink)
+}
+
+/// Hands the fields of QuickTime's version 2 after the rate to a sink.
+fn put_second_row<K: FieldSink>(bytes: &[u8], sink: &mut K) -> Result<()>
+    requires { 64 ≤ length bytes.now }
+    ensures { OnOk result (Hands K.trace K.after sink.old (shown_row SECOND.now (second_row bytes.now)) sink.new) }
+{
+    let parts = [
+        Part::U32(u32_at(bytes, 40)),
+        Part::U32(u32_at(bytes, 48)),
+        Part::U32(u32_at(bytes, 52)),
+        Part::U32(u32_at(bytes, 56)),
+        Part::U32(u32_at(bytes, 60)),
+    ];
+    put_row(SECOND, &parts, sink)
+}
+
+/// Hands this `rate` and the other fields of QuickTime's version 2 to a sink.
+fn put_rate<K: FieldSink>(bytes: &[u8], rate: Value<'_>, sink: &mut K) -> Result<()>
+    requires { 64 ≤ length bytes.now }
+    ensures { OnOk result (Hands K.trace K.after sink.old
+        (field (codes "audioSampleRate") (shown_of rate.entry) ∷ shown_row SECOND.now (second_row bytes.now))
+        sink.new) }
+{
+    sink.field("audioSampleRate", rate)?;
+    put_second_row(bytes, sink)
+}
+
+/// Hands the fields of QuickTime's version 1 to a sink, if the entry has them.
+#[tactic(auto, unfolding(crate::specs::SoundFront::has_first))]
+fn put_first<K: FieldSink>(bytes: &[u8], quicktime: bool, sink: &mut K) -> Result<()>
+    requires { 28 ≤ length bytes.now }
+    ensures { OnOk result (Hands K.trace K.after sink.old (shown_first FIRST.now quicktime bytes.now) sink.new) }
+{
+    if quicktime && u16_at(bytes, 8) == 1 && bytes.len() >= 44 {
+        put_first_row(bytes, sink)
+    } else {
+        Ok(())
+    }
+}
+
+/// Hands the fields of QuickTime's version 2 to a sink, if the entry has them, with this `rate`.
+#[tactic(auto, unfolding(crate::specs::SoundFront::has_second))]
+fn put_second<K: FieldSink>(
     bytes: &[u8],
     quicktime: bool,
     rate: Value<'_>,
-    view: View,
     sink: &mut K,
 ) -> Result<()>
     requires { 28 ≤ length bytes.now }
-    ensures fields { OnOk result (Hands K.trace K.after sink.old
-        (⟦<FirstShown as NamedShape>⟧.shown FIRST view (first_of quicktime bytes.now)
-        ++ ⟦<SecondShown as NamedShape>⟧.shown SECOND view (second_of quicktime bytes.now rate.entry)) sink.new) }
-    ensures whole { OnOk result (HandsMembers K.trace K.after sink.old sink.new) }
+    ensures { OnOk result (Hands K.trace K.after sink.old
+        (shown_second SECOND.now quicktime bytes.now (shown_of rate.entry)) sink.new) }
 {
-    put_in_view::<FirstShown, _, K>(FIRST, view, first_of(quicktime, bytes), sink)?;
-    put_in_view::<SecondShown, _, K>(SECOND, view, second_of(quicktime, bytes, rate), sink)
+    if quicktime && u16_at(bytes, 8) == 2 && bytes.len() >= 64 {
+        put_rate(bytes, rate, sink)
+    } else {
+        Ok(())
+    }
 }
 
 /// Hands the fields of a sample entry of sound to a sink, with this `rate` for QuickTime's version 2.
@@ -181,16 +149,19 @@ fn put_with_rate<K: FieldSink>(
     sink: &mut K,
 ) -> Result<()>
     requires { 28 ≤ length bytes.now }
-    ensures fields { OnOk result (Hands K.trace K.after sink.old
-        (⟦<CommonShown as NamedShape>⟧.shown COMMON (K.wanted sink.old) (common_of quicktime bytes.now)
-        ++ (⟦<FirstShown as NamedShape>⟧.shown FIRST (K.wanted sink.old) (first_of quicktime bytes.now)
-        ++ ⟦<SecondShown as NamedShape>⟧.shown SECOND (K.wanted sink.old) (second_of quicktime bytes.now rate.entry)))
-        sink.new) }
-    ensures whole { OnOk result (HandsMembers K.trace K.after sink.old sink.new) }
+    ensures { OnOk result (Hands K.trace K.after sink.old
+        (shown_sound COMMON.now FIRST.now SECOND.now quicktime bytes.now (shown_of rate.entry)) sink.new) }
 {
-    let view = sink.view();
-    put_in_view::<CommonShown, _, K>(COMMON, view, common_of(quicktime, bytes), sink)?;
-    put_quicktime(bytes, quicktime, rate, view, sink)
+    let parts = [
+        Part::U16(u16_at(bytes, 6)),
+        Part::SomeU32(version_of(quicktime, bytes)),
+        Part::U16(u16_at(bytes, 16)),
+        Part::U16(u16_at(bytes, 18)),
+        Part::U32(u32_at(bytes, 24)),
+    ];
+    put_row(COMMON, &parts, sink)?;
+    put_first(bytes, quicktime, sink)?;
+    put_second(bytes, quicktime, rate, sink)
 }
 
 /// Hands the fields of a sample entry of sound to a sink. The common ones are the first 28 bytes of its content. Those
@@ -199,10 +170,7 @@ fn put_with_rate<K: FieldSink>(
 pub fn put_sound<K: FieldSink>(bytes: &[u8], quicktime: bool, sink: &mut K) -> Result<()>
     requires { 28 ≤ length bytes.now }
     ensures fields { OnOk result ((rate : AValue) × Hands K.trace K.after sink.old
-        (⟦<CommonShown as NamedShape>⟧.shown COMMON (K.wanted sink.old) (common_of quicktime bytes.now)
-        ++ (⟦<FirstShown as NamedShape>⟧.shown FIRST (K.wanted sink.old) (first_of quicktime bytes.now)
-        ++ ⟦<SecondShown as NamedShape>⟧.shown SECOND (K.wanted sink.old) (second_of quicktime bytes.now rate)))
-        sink.new) }
+        (shown_sound COMMON.now FIRST.now SECOND.now quicktime bytes.now (shown_of rate)) sink.new) }
     ensures whole { OnOk result (HandsMembers K.trace K.after sink.old sink.new) }
 {
     let mut buffer = Buffer::new();

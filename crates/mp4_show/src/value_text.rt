@@ -74,7 +74,7 @@ fn push_matrix(m: &Matrix, out: &mut String) -> Result<()> {
 }
 
 /// Appends the text of a value.
-pub fn push_value(alloc: Global, value: Value<'_>, out: &mut String) -> Result<()> {
+pub(crate) fn push_value(alloc: Global, value: Value<'_>, out: &mut String) -> Result<()> {
     match value {
         Value::Number(number) => push_number(number, out),
         Value::Signed(number) => push_signed(number, out),

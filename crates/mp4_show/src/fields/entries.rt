@@ -1,19 +1,21 @@
 //! The fields of sample entries of video and subtitles, and of the configurations of their decoders.
 
-ghost use Rattle.mp4_show.specs.declared.fields.entries.TheConstants.{AVC1, AVCC, COLOR, HEV1, HVCC, TX3G, VP09};
-ghost use Rattle.mp4_show.specs.declared.fields.entries.TheConstants.{VP09_REST, VPCC, VPCC_REST};
-ghost use Rattle.std.specs.Prelude.{◌++◌};
+ghost use Rattle.std.specs.Prelude.{◌++◌, OnOk, codes};
+ghost use Rattle.mp4_show.specs.EntryRows.{avc1_row, avcc_row, color_row, hev1_row, hvcc_row};
+ghost use Rattle.mp4_show.specs.EntryRows.{style_row, tx3g_row, vp09_row, vpcc_row};
+ghost use Rattle.mp4_show.specs.Lists.{listed, shown_table, whole_listed, whole_table};
+ghost use Rattle.mp4_show.specs.Row.{row_and_group, shown_row, whole_row, whole_row_and_group};
+ghost use Rattle.mp4_show.specs.declared.fields.entries.TheConstants.{AVC1, AVCC, COLOR, HEV1, HVCC, STYLE, TX3G};
+ghost use Rattle.mp4_show.specs.declared.fields.entries.TheConstants.{VP09, VPCC};
+ghost use Rattle.mp4_shown.specs.Hands.{Hands};
 ghost use Rattle.mp4_shown.specs.Lists.{bytes_item};
-ghost use Rattle.mp4_shown.specs.Members.{members_append, whole_bytes_item};
+ghost use Rattle.mp4_shown.specs.Members.{members_append, whole_bytes_item, whole_group};
+ghost use Rattle.mp4_shown.specs.Shapes.{shown_group};
 
 use crate::box_fields::BoxFields;
-use crate::entries_in::{BoxEntry, EntriesIn};
-use crate::shapes::{FieldsOf, FlagBit, Rectangle, Resolution};
-use mp4_declared::{Array, Full, I8, Last, U8, U16, U32, parts_of};
-use mp4_shown::{
-    FLAGS, FieldSink, Group, NamedShape, Result, VERSION, Value, View, names_of, number, run,
-    show_shape,
-};
+use crate::lists::{BoxEntry, put_list, put_table};
+use crate::row::{Part, field, put_group, put_row};
+use mp4_shown::{FLAGS, FieldSink, NumberName, Result, VERSION, Value, View, number};
 use mp4_stream::{
     Avc1Box, AvcCBox, Hev1Box, HvcCBox, NalUnit, RgbaColor, Tx3gBox, Vp09Box, VpccBox,
 };
@@ -29,176 +31,109 @@ impl BoxEntry<()> for NalUnit {
     }
 }
 
-/// The configuration of an AVC decoder (ISO/IEC 14496-15, 5.3.3.1).
-type AvccShown = (
-    U8,
-    U8,
-    U8,
-    U8,
-    (U8, EntriesIn<(), NalUnit>, Last<EntriesIn<(), NalUnit>>),
-);
-
-/// The names of its fields.
-const AVCC: <AvccShown as NamedShape>::Names = names_of!(
+/// The fields of the configuration of an AVC decoder before its sets (ISO/IEC 14496-15, 5.3.3.1).
+const AVCC: &[NumberName] = &[
     number!("configurationVersion"),
     number!("AVCProfileIndication"),
     number!("profile_compatibility"),
     number!("AVCLevelIndication"),
     number!("lengthSizeMinusOne"),
-    "sequenceParameterSetNALUnit",
-    "pictureParameterSetNALUnit"
-);
+];
 
 impl BoxFields for AvcCBox {
-    ghost shown = { λ view b. ⟦<AvccShown as NamedShape>⟧.shown AVCC view (
-      b.configuration_version,
-      (
-        b.avc_profile_indication,
-        (
-          b.profile_compatibility,
-          (
-            b.avc_level_indication,
-            (b.length_size_minus_one, ((tt, b.sequence_parameter_sets), ((tt, b.picture_parameter_sets), tt))),
-          ),
-        ),
-      ),
-    ) };
+    ghost shown = { λ view b. shown_table AVCC.now (avcc_row b) (codes "sequenceParameterSetNALUnit")
+        (⟦<NalUnit as BoxEntry<()>>⟧.shown view tt) view.rows b.sequence_parameter_sets
+        ++ listed (codes "pictureParameterSetNALUnit") (⟦<NalUnit as BoxEntry<()>>⟧.shown view tt) view.rows
+        b.picture_parameter_sets };
 
-    ghost whole = { λ view b. ⟦<AvccShown as NamedShape>⟧.whole AVCC view (
-      b.configuration_version,
-      (
-        b.avc_profile_indication,
-        (
-          b.profile_compatibility,
-          (
-            b.avc_level_indication,
-            (b.length_size_minus_one, ((tt, b.sequence_parameter_sets), ((tt, b.picture_parameter_sets), tt))),
-          ),
-        ),
-      ),
-    ) };
+    ghost whole = { λ view b. members_append
+        (shown_table AVCC.now (avcc_row b) (codes "sequenceParameterSetNALUnit")
+        (⟦<NalUnit as BoxEntry<()>>⟧.shown view tt) view.rows b.sequence_parameter_sets)
+        (listed (codes "pictureParameterSetNALUnit") (⟦<NalUnit as BoxEntry<()>>⟧.shown view tt) view.rows
+        b.picture_parameter_sets)
+        (whole_table AVCC.now (avcc_row b) (codes "sequenceParameterSetNALUnit")
+        (⟦<NalUnit as BoxEntry<()>>⟧.shown view tt) (⟦<NalUnit as BoxEntry<()>>⟧.whole view tt) view.rows
+        b.sequence_parameter_sets)
+        (whole_listed (codes "pictureParameterSetNALUnit") (⟦<NalUnit as BoxEntry<()>>⟧.shown view tt)
+        (⟦<NalUnit as BoxEntry<()>>⟧.whole view tt) view.rows b.picture_parameter_sets) };
 
     fn show<K: FieldSink>(&self, view: View, sink: &mut K) -> Result<()> {
-        let sequences = ((), self.sequence_parameter_sets.as_slice());
-        let pictures = ((), self.picture_parameter_sets.as_slice());
-        let parts =
-            parts_of!(self => configuration_version, avc_profile_indication, profile_compatibility,
-            avc_level_indication, length_size_minus_one, = sequences, = pictures);
-        show_shape::<AvccShown, _, K>(AVCC, view, parts, sink)
+        let parts = [
+            Part::U8(self.configuration_version),
+            Part::U8(self.avc_profile_indication),
+            Part::U8(self.profile_compatibility),
+            Part::U8(self.avc_level_indication),
+            Part::U8(self.length_size_minus_one),
+        ];
+        let sequences = &self.sequence_parameter_sets;
+        let pictures = &self.picture_parameter_sets;
+        put_table(
+            AVCC,
+            &parts,
+            "sequenceParameterSetNALUnit",
+            sequences,
+            view,
+            (),
+            sink,
+        )?;
+        put_list("pictureParameterSetNALUnit", pictures, view, (), sink)
     }
 }
 
-/// The configuration of an HEVC decoder (ISO/IEC 14496-15, 8.3.3.1). The codec reads only the version.
-type HvccShown = Last<U8>;
-
-/// The names of its fields.
-const HVCC: <HvccShown as NamedShape>::Names = names_of!(number!("configurationVersion"));
+/// The field of the configuration of an HEVC decoder that the codec reads (ISO/IEC 14496-15, 8.3.3.1).
+const HVCC: &[NumberName] = &[number!("configurationVersion")];
 
 impl BoxFields for HvcCBox {
-    ghost shown = { λ view b. ⟦<HvccShown as NamedShape>⟧.shown HVCC view (b.configuration_version, tt) };
+    ghost shown = { λ view b. shown_row HVCC.now (hvcc_row b) };
 
-    ghost whole = { λ view b. ⟦<HvccShown as NamedShape>⟧.whole HVCC view (b.configuration_version, tt) };
+    ghost whole = { λ view b. whole_row HVCC.now (hvcc_row b) };
 
-    fn show<K: FieldSink>(&self, view: View, sink: &mut K) -> Result<()> {
-        show_shape::<HvccShown, _, K>(HVCC, view, (self.configuration_version, ()), sink)
+    fn show<K: FieldSink>(&self, _view: View, sink: &mut K) -> Result<()> {
+        let parts = [Part::U8(self.configuration_version)];
+        put_row(HVCC, &parts, sink)
     }
 }
 
-/// The configuration of a VP decoder (VP Codec ISO Media File Format Binding, 2.2), up to the subsampling.
-type VpccFront = Full<256, (U8, U8, U8, Last<U8>)>;
-
-/// The names of its fields.
-const VPCC: <VpccFront as NamedShape>::Names = names_of!(
+/// The configuration of a VP decoder (VP Codec ISO Media File Format Binding, 2.2).
+const VPCC: &[NumberName] = &[
     VERSION,
     FLAGS,
     number!("profile"),
     number!("level"),
     number!("bitDepth"),
-    number!("chromaSubsampling")
-);
-
-/// The fields after the subsampling.
-type VpccRest = (FlagBit, U8, U8, U8, Last<U16>);
-
-/// The names of its fields.
-const VPCC_REST: <VpccRest as NamedShape>::Names = names_of!(
+    number!("chromaSubsampling"),
     number!("videoFullRangeFlag"),
     number!("colourPrimaries"),
     number!("transferCharacteristics"),
     number!("matrixCoefficients"),
-    number!("codecInitializationDataSize")
-);
+    number!("codecInitializationDataSize"),
+];
 
 impl BoxFields for VpccBox {
-    ghost shown = { λ view b. ⟦<VpccFront as NamedShape>⟧.shown VPCC view
-        (b.version, (b.flags, (b.profile, (b.level, (b.bit_depth, (b.chroma_subsampling, tt))))))
-        ++ ⟦<VpccRest as NamedShape>⟧.shown VPCC_REST view (
-          b.video_full_range_flag,
-          (
-            b.color_primaries,
-            (
-              b.transfer_characteristics,
-              (
-                b.matrix_coefficients,
-                (b.codec_initialization_data_size, tt),
-              ),
-            ),
-          ),
-        ) };
+    ghost shown = { λ view b. shown_row VPCC.now (vpcc_row b) };
 
-    ghost whole = { λ view b. members_append (⟦<VpccFront as NamedShape>⟧.shown VPCC view
-        (b.version, (b.flags, (b.profile, (b.level, (b.bit_depth, (b.chroma_subsampling, tt)))))))
-        (⟦<VpccRest as NamedShape>⟧.shown VPCC_REST view (
-          b.video_full_range_flag,
-          (
-            b.color_primaries,
-            (
-              b.transfer_characteristics,
-              (
-                b.matrix_coefficients,
-                (b.codec_initialization_data_size, tt),
-              ),
-            ),
-          ),
-        ))
-        (⟦<VpccFront as NamedShape>⟧.whole VPCC view
-        (b.version, (b.flags, (b.profile, (b.level, (b.bit_depth, (b.chroma_subsampling, tt)))))))
-        (⟦<VpccRest as NamedShape>⟧.whole VPCC_REST view (
-          b.video_full_range_flag,
-          (
-            b.color_primaries,
-            (
-              b.transfer_characteristics,
-              (
-                b.matrix_coefficients,
-                (b.codec_initialization_data_size, tt),
-              ),
-            ),
-          ),
-        )) };
+    ghost whole = { λ view b. whole_row VPCC.now (vpcc_row b) };
 
-    fn show<K: FieldSink>(&self, view: View, sink: &mut K) -> Result<()> {
-        let front =
-            parts_of!(self => version, flags, profile, level, bit_depth, chroma_subsampling);
-        let rest =
-            parts_of!(self => video_full_range_flag, color_primaries, transfer_characteristics,
-            matrix_coefficients, codec_initialization_data_size);
-        show_shape::<VpccFront, _, K>(VPCC, view, front, sink)?;
-        show_shape::<VpccRest, _, K>(VPCC_REST, view, rest, sink)
+    fn show<K: FieldSink>(&self, _view: View, sink: &mut K) -> Result<()> {
+        let parts = [
+            Part::U8(self.version),
+            Part::U32(self.flags),
+            Part::U8(self.profile),
+            Part::U8(self.level),
+            Part::U8(self.bit_depth),
+            Part::U8(self.chroma_subsampling),
+            Part::Bit(self.video_full_range_flag),
+            Part::U8(self.color_primaries),
+            Part::U8(self.transfer_characteristics),
+            Part::U8(self.matrix_coefficients),
+            Part::U16(self.codec_initialization_data_size),
+        ];
+        put_row(VPCC, &parts, sink)
     }
 }
 
 /// A sample entry of AVC video (ISO/IEC 14496-15, 5.4.2.1).
-type Avc1Shown = (
-    U16,
-    U16,
-    U16,
-    U32,
-    (U32, U16, U16, Last<Group<FieldsOf<AvcCBox>>>),
-);
-
-/// The names of its fields.
-const AVC1: <Avc1Shown as NamedShape>::Names = names_of!(
+const AVC1: &[NumberName] = &[
     number!("data_reference_index"),
     number!("width"),
     number!("height"),
@@ -206,70 +141,32 @@ const AVC1: <Avc1Shown as NamedShape>::Names = names_of!(
     number!("vertresolution", Fixed(16)),
     number!("frame_count"),
     number!("depth"),
-    ("avcC", ())
-);
+];
 
 impl BoxFields for Avc1Box {
-    ghost shown = { λ view b. ⟦<Avc1Shown as NamedShape>⟧.shown AVC1 view (
-      b.data_reference_index,
-      (
-        b.width,
-        (
-          b.height,
-          (
-            b.horizresolution,
-            (
-              b.vertresolution,
-              (
-                b.frame_count,
-                (b.depth, (b.avcc, tt)),
-              ),
-            ),
-          ),
-        ),
-      ),
-    ) };
+    ghost shown = { λ view b. row_and_group AVC1.now (avc1_row b) (codes "avcC")
+        (⟦<AvcCBox as BoxFields>⟧.shown view b.avcc) };
 
-    ghost whole = { λ view b. ⟦<Avc1Shown as NamedShape>⟧.whole AVC1 view (
-      b.data_reference_index,
-      (
-        b.width,
-        (
-          b.height,
-          (
-            b.horizresolution,
-            (
-              b.vertresolution,
-              (
-                b.frame_count,
-                (b.depth, (b.avcc, tt)),
-              ),
-            ),
-          ),
-        ),
-      ),
-    ) };
+    ghost whole = { λ view b. whole_row_and_group AVC1.now (avc1_row b) (codes "avcC")
+        (⟦<AvcCBox as BoxFields>⟧.shown view b.avcc) (⟦<AvcCBox as BoxFields>⟧.whole view b.avcc) };
 
     fn show<K: FieldSink>(&self, view: View, sink: &mut K) -> Result<()> {
-        let avcc = &self.avcc;
-        let parts =
-            parts_of!(self => data_reference_index, width, height, horizresolution.raw_value(),
-            vertresolution.raw_value(), frame_count, depth, = avcc);
-        show_shape::<Avc1Shown, _, K>(AVC1, view, parts, sink)
+        let parts = [
+            Part::U16(self.data_reference_index),
+            Part::U16(self.width),
+            Part::U16(self.height),
+            Part::U32(self.horizresolution.raw_value()),
+            Part::U32(self.vertresolution.raw_value()),
+            Part::U16(self.frame_count),
+            Part::U16(self.depth),
+        ];
+        put_row(AVC1, &parts, sink)?;
+        put_group("avcC", &self.avcc, view, sink)
     }
 }
 
 /// A sample entry of HEVC video (ISO/IEC 14496-15, 8.4.1.1).
-type Hev1Shown = (
-    U16,
-    U16,
-    U16,
-    U32,
-    (U32, U16, U16, Last<Group<FieldsOf<HvcCBox>>>),
-);
-
-/// The names of its fields.
-const HEV1: <Hev1Shown as NamedShape>::Names = names_of!(
+const HEV1: &[NumberName] = &[
     number!("data_reference_index"),
     number!("width"),
     number!("height"),
@@ -277,249 +174,145 @@ const HEV1: <Hev1Shown as NamedShape>::Names = names_of!(
     number!("vertresolution", Fixed(16)),
     number!("frame_count"),
     number!("depth"),
-    ("hvcC", ())
-);
+];
 
 impl BoxFields for Hev1Box {
-    ghost shown = { λ view b. ⟦<Hev1Shown as NamedShape>⟧.shown HEV1 view (
-      b.data_reference_index,
-      (
-        b.width,
-        (
-          b.height,
-          (
-            b.horizresolution,
-            (
-              b.vertresolution,
-              (
-                b.frame_count,
-                (b.depth, (b.hvcc, tt)),
-              ),
-            ),
-          ),
-        ),
-      ),
-    ) };
+    ghost shown = { λ view b. row_and_group HEV1.now (hev1_row b) (codes "hvcC")
+        (⟦<HvcCBox as BoxFields>⟧.shown view b.hvcc) };
 
-    ghost whole = { λ view b. ⟦<Hev1Shown as NamedShape>⟧.whole HEV1 view (
-      b.data_reference_index,
-      (
-        b.width,
-        (
-          b.height,
-          (
-            b.horizresolution,
-            (
-              b.vertresolution,
-              (
-                b.frame_count,
-                (b.depth, (b.hvcc, tt)),
-              ),
-            ),
-          ),
-        ),
-      ),
-    ) };
+    ghost whole = { λ view b. whole_row_and_group HEV1.now (hev1_row b) (codes "hvcC")
+        (⟦<HvcCBox as BoxFields>⟧.shown view b.hvcc) (⟦<HvcCBox as BoxFields>⟧.whole view b.hvcc) };
 
     fn show<K: FieldSink>(&self, view: View, sink: &mut K) -> Result<()> {
-        let hvcc = &self.hvcc;
-        let parts =
-            parts_of!(self => data_reference_index, width, height, horizresolution.raw_value(),
-            vertresolution.raw_value(), frame_count, depth, = hvcc);
-        show_shape::<Hev1Shown, _, K>(HEV1, view, parts, sink)
+        let parts = [
+            Part::U16(self.data_reference_index),
+            Part::U16(self.width),
+            Part::U16(self.height),
+            Part::U32(self.horizresolution.raw_value()),
+            Part::U32(self.vertresolution.raw_value()),
+            Part::U16(self.frame_count),
+            Part::U16(self.depth),
+        ];
+        put_row(HEV1, &parts, sink)?;
+        put_group("hvcC", &self.hvcc, view, sink)
     }
 }
 
-/// A sample entry of VP9 video (VP Codec ISO Media File Format Binding, 2.1), up to the height.
-type Vp09Front = Full<256, (U16, U16, Array<16>, U16, Last<U16>)>;
-
-/// The names of its fields.
-const VP09: <Vp09Front as NamedShape>::Names = names_of!(
+/// A sample entry of VP9 video (VP Codec ISO Media File Format Binding, 2.1).
+const VP09: &[NumberName] = &[
     VERSION,
     FLAGS,
     number!("start_code"),
     number!("data_reference_index"),
-    run!("reserved0", Bytes),
+    field!("reserved0"),
     number!("width"),
-    number!("height")
-);
-
-/// The fields after the height.
-type Vp09Rest = (
-    Resolution,
-    Resolution,
-    Array<4>,
-    U16,
-    (Array<32>, U16, U16, Last<Group<FieldsOf<VpccBox>>>),
-);
-
-/// The names of its fields.
-const VP09_REST: <Vp09Rest as NamedShape>::Names = names_of!(
-    "horizresolution",
-    "vertresolution",
-    run!("reserved1", Bytes),
+    number!("height"),
+    field!("horizresolution"),
+    field!("vertresolution"),
+    field!("reserved1"),
     number!("frame_count"),
-    run!("compressorname", Bytes),
+    field!("compressorname"),
     number!("depth"),
     number!("end_code"),
-    ("vpcC", ())
-);
+];
 
 impl BoxFields for Vp09Box {
-    ghost shown = { λ view b. ⟦<Vp09Front as NamedShape>⟧.shown VP09 view
-        (b.version, (b.flags, (b.start_code, (b.data_reference_index, (b.reserved0, (b.width, (b.height, tt)))))))
-        ++ ⟦<Vp09Rest as NamedShape>⟧.shown VP09_REST view (
-          b.horizresolution,
-          (
-            b.vertresolution,
-            (
-              b.reserved1,
-              (
-                b.frame_count,
-                (
-                  b.compressorname,
-                  (
-                    b.depth,
-                    (b.end_code, (b.vpcc, tt)),
-                  ),
-                ),
-              ),
-            ),
-          ),
-        ) };
+    ghost shown = { λ view b. row_and_group VP09.now (vp09_row b) (codes "vpcC")
+        (⟦<VpccBox as BoxFields>⟧.shown view b.vpcc) };
 
-    ghost whole = { λ view b. members_append (⟦<Vp09Front as NamedShape>⟧.shown VP09 view
-        (b.version, (b.flags, (b.start_code, (b.data_reference_index, (b.reserved0, (b.width, (b.height, tt))))))))
-        (⟦<Vp09Rest as NamedShape>⟧.shown VP09_REST view (
-          b.horizresolution,
-          (
-            b.vertresolution,
-            (
-              b.reserved1,
-              (
-                b.frame_count,
-                (
-                  b.compressorname,
-                  (
-                    b.depth,
-                    (b.end_code, (b.vpcc, tt)),
-                  ),
-                ),
-              ),
-            ),
-          ),
-        ))
-        (⟦<Vp09Front as NamedShape>⟧.whole VP09 view
-        (b.version, (b.flags, (b.start_code, (b.data_reference_index, (b.reserved0, (b.width, (b.height, tt))))))))
-        (⟦<Vp09Rest as NamedShape>⟧.whole VP09_REST view (
-          b.horizresolution,
-          (
-            b.vertresolution,
-            (
-              b.reserved1,
-              (
-                b.frame_count,
-                (
-                  b.compressorname,
-                  (
-                    b.depth,
-                    (b.end_code, (b.vpcc, tt)),
-                  ),
-                ),
-              ),
-            ),
-          ),
-        )) };
+    ghost whole = { λ view b. whole_row_and_group VP09.now (vp09_row b) (codes "vpcC")
+        (⟦<VpccBox as BoxFields>⟧.shown view b.vpcc) (⟦<VpccBox as BoxFields>⟧.whole view b.vpcc) };
 
     fn show<K: FieldSink>(&self, view: View, sink: &mut K) -> Result<()> {
-        let vpcc = &self.vpcc;
-        let front =
-            parts_of!(self => version, flags, start_code, data_reference_index, reserved0, width, height);
-        let rest =
-            parts_of!(self => horizresolution, vertresolution, reserved1, frame_count, compressorname,
-            depth, end_code, = vpcc);
-        show_shape::<Vp09Front, _, K>(VP09, view, front, sink)?;
-        show_shape::<Vp09Rest, _, K>(VP09_REST, view, rest, sink)
+        let parts = [
+            Part::U8(self.version),
+            Part::U32(self.flags),
+            Part::U16(self.start_code),
+            Part::U16(self.data_reference_index),
+            Part::Bytes(&self.reserved0),
+            Part::U16(self.width),
+            Part::U16(self.height),
+            Part::Resolution(self.horizresolution),
+            Part::Resolution(self.vertresolution),
+            Part::Bytes(&self.reserved1),
+            Part::U16(self.frame_count),
+            Part::Bytes(&self.compressorname),
+            Part::U16(self.depth),
+            Part::U16(self.end_code),
+        ];
+        put_row(VP09, &parts, sink)?;
+        put_group("vpcC", &self.vpcc, view, sink)
     }
 }
 
 /// A colour.
-type ColorShown = (U8, U8, U8, Last<U8>);
-
-/// The names of its fields.
-const COLOR: <ColorShown as NamedShape>::Names = names_of!(
+const COLOR: &[NumberName] = &[
     number!("red"),
     number!("green"),
     number!("blue"),
-    number!("alpha")
-);
+    number!("alpha"),
+];
 
 impl BoxFields for RgbaColor {
-    ghost shown = { λ view b. ⟦<ColorShown as NamedShape>⟧.shown COLOR view
-        (b.red, (b.green, (b.blue, (b.alpha, tt)))) };
+    ghost shown = { λ view b. shown_row COLOR.now (color_row b) };
 
-    ghost whole = { λ view b. ⟦<ColorShown as NamedShape>⟧.whole COLOR view
-        (b.red, (b.green, (b.blue, (b.alpha, tt)))) };
+    ghost whole = { λ view b. whole_row COLOR.now (color_row b) };
 
-    fn show<K: FieldSink>(&self, view: View, sink: &mut K) -> Result<()> {
-        let parts = parts_of!(self => red, green, blue, alpha);
-        show_shape::<ColorShown, _, K>(COLOR, view, parts, sink)
+    fn show<K: FieldSink>(&self, _view: View, sink: &mut K) -> Result<()> {
+        let parts = [
+            Part::U8(self.red),
+            Part::U8(self.green),
+            Part::U8(self.blue),
+            Part::U8(self.alpha),
+        ];
+        put_row(COLOR, &parts, sink)
     }
 }
 
-/// A sample entry of timed text (3GPP TS 26.245, 5.16).
-type Tx3gShown = (
-    U16,
-    U32,
-    I8,
-    I8,
-    (Group<FieldsOf<RgbaColor>>, Rectangle, Last<Array<12>>),
-);
-
-/// The names of its fields.
-const TX3G: <Tx3gShown as NamedShape>::Names = names_of!(
+/// The fields of a sample entry of timed text before its colour (3GPP TS 26.245, 5.16).
+const TX3G: &[NumberName] = &[
     number!("data_reference_index"),
     number!("displayFlags", Flags(8)),
     number!("horizontal-justification"),
     number!("vertical-justification"),
-    ("background-color-rgba", ()),
-    "default-text-box",
-    run!("default-style", Bytes)
-);
+];
+
+/// The fields after its colour.
+const STYLE: &[NumberName] = &[field!("default-text-box"), field!("default-style")];
+
+/// Hands the fields of a sample entry of timed text after its colour to a sink.
+fn put_style<K: FieldSink>(b: &Tx3gBox, sink: &mut K) -> Result<()>
+    ensures { OnOk result (Hands K.trace K.after sink.old (shown_row STYLE.now (style_row b.now)) sink.new) }
+{
+    let parts = [Part::Numbers(&b.box_record), Part::Bytes(&b.style_record)];
+    put_row(STYLE, &parts, sink)
+}
 
 impl BoxFields for Tx3gBox {
-    ghost shown = { λ view b. ⟦<Tx3gShown as NamedShape>⟧.shown TX3G view (
-      b.data_reference_index,
-      (
-        b.display_flags,
-        (
-          b.horizontal_justification,
-          (
-            b.vertical_justification,
-            (b.bg_color_rgba, (b.box_record, (b.style_record, tt))),
-          ),
-        ),
-      ),
-    ) };
+    ghost shown = { λ view b. shown_row TX3G.now (tx3g_row b)
+        ++ (shown_group (codes "background-color-rgba") (⟦<RgbaColor as BoxFields>⟧.shown view b.bg_color_rgba)
+        ++ shown_row STYLE.now (style_row b)) };
 
-    ghost whole = { λ view b. ⟦<Tx3gShown as NamedShape>⟧.whole TX3G view (
-      b.data_reference_index,
-      (
-        b.display_flags,
-        (
-          b.horizontal_justification,
-          (
-            b.vertical_justification,
-            (b.bg_color_rgba, (b.box_record, (b.style_record, tt))),
-          ),
-        ),
-      ),
-    ) };
+    ghost whole = { λ view b. members_append (shown_row TX3G.now (tx3g_row b))
+        (shown_group (codes "background-color-rgba") (⟦<RgbaColor as BoxFields>⟧.shown view b.bg_color_rgba)
+        ++ shown_row STYLE.now (style_row b))
+        (whole_row TX3G.now (tx3g_row b))
+        (members_append
+        (shown_group (codes "background-color-rgba") (⟦<RgbaColor as BoxFields>⟧.shown view b.bg_color_rgba))
+        (shown_row STYLE.now (style_row b))
+        (whole_group (codes "background-color-rgba") (⟦<RgbaColor as BoxFields>⟧.shown view b.bg_color_rgba)
+        (⟦<RgbaColor as BoxFields>⟧.whole view b.bg_color_rgba))
+        (whole_row STYLE.now (style_row b))) };
 
     fn show<K: FieldSink>(&self, view: View, sink: &mut K) -> Result<()> {
-        let color = &self.bg_color_rgba;
-        let parts = parts_of!(self => data_reference_index, display_flags, horizontal_justification,
-            vertical_justification, = color, box_record, style_record);
-        show_shape::<Tx3gShown, _, K>(TX3G, view, parts, sink)
+        let parts = [
+            Part::U16(self.data_reference_index),
+            Part::U32(self.display_flags),
+            Part::I8(self.horizontal_justification),
+            Part::I8(self.vertical_justification),
+        ];
+        put_row(TX3G, &parts, sink)?;
+        put_group("background-color-rgba", &self.bg_color_rgba, view, sink)?;
+        put_style(self, sink)
     }
 }

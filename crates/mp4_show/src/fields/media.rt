@@ -1,116 +1,110 @@
 //! The fields of the headers of media, and of references to media data.
 
-ghost use Rattle.mp4_show.specs.declared.fields.media.TheConstants.{DINF, DREF, SMHD, URL, VMHD};
+ghost use Rattle.std.specs.Prelude.{codes};
+ghost use Rattle.mp4_show.specs.BoxRows.{smhd_row, url_row, vmhd_row};
+ghost use Rattle.mp4_show.specs.Row.{full_row, row_and_group_if, shown_row, whole_row, whole_row_and_group_if};
+ghost use Rattle.mp4_show.specs.declared.fields.media.TheConstants.{SMHD, URL, VMHD};
+ghost use Rattle.mp4_show.specs.declared.row.TheConstants.{FULL};
+ghost use Rattle.mp4_shown.specs.Members.{whole_group};
+ghost use Rattle.mp4_shown.specs.Shapes.{shown_group};
 
 use crate::box_fields::BoxFields;
 use crate::flag_names::REFERENCE;
-use crate::shapes::{FieldsOf, LossyText, Optional};
-use mp4_declared::{Full, I16, Last, U16, parts_of};
-use mp4_shown::{
-    FLAGS, FieldSink, Group, NamedShape, Result, VERSION, View, names_of, number, show_shape,
-};
+use crate::row::{FULL, Part, field, put_group, put_group_if, put_row};
+use mp4_shown::{FLAGS, FieldSink, NumberName, Result, VERSION, View, number};
 use mp4_stream::{DinfBox, DrefBox, SmhdBox, UrlBox, VmhdBox};
 
-/// Video media header (ISO/IEC 14496-12, 12.1.2).
-type VmhdShown = Full<256, (U16, U16, U16, Last<U16>)>;
-
-/// The names of its fields.
-const VMHD: <VmhdShown as NamedShape>::Names = names_of!(
+/// The fields of a video media header (ISO/IEC 14496-12, 12.1.2).
+const VMHD: &[NumberName] = &[
     VERSION,
     FLAGS,
     number!("graphicsmode"),
     number!("opcolor_red"),
     number!("opcolor_green"),
-    number!("opcolor_blue")
-);
+    number!("opcolor_blue"),
+];
 
 impl BoxFields for VmhdBox {
-    ghost shown = { λ view b. ⟦<VmhdShown as NamedShape>⟧.shown VMHD view
-        (b.version, (b.flags, (b.graphics_mode, (b.op_color.red, (b.op_color.green, (b.op_color.blue, tt)))))) };
+    ghost shown = { λ view b. shown_row VMHD.now (vmhd_row b) };
 
-    ghost whole = { λ view b. ⟦<VmhdShown as NamedShape>⟧.whole VMHD view
-        (b.version, (b.flags, (b.graphics_mode, (b.op_color.red, (b.op_color.green, (b.op_color.blue, tt)))))) };
+    ghost whole = { λ view b. whole_row VMHD.now (vmhd_row b) };
 
-    fn show<K: FieldSink>(&self, view: View, sink: &mut K) -> Result<()> {
-        let red = self.op_color.red;
-        let green = self.op_color.green;
-        let blue = self.op_color.blue;
-        let parts = parts_of!(self => version, flags, graphics_mode, = red, = green, = blue);
-        show_shape::<VmhdShown, _, K>(VMHD, view, parts, sink)
+    fn show<K: FieldSink>(&self, _view: View, sink: &mut K) -> Result<()> {
+        let parts = [
+            Part::U8(self.version),
+            Part::U32(self.flags),
+            Part::U16(self.graphics_mode),
+            Part::U16(self.op_color.red),
+            Part::U16(self.op_color.green),
+            Part::U16(self.op_color.blue),
+        ];
+        put_row(VMHD, &parts, sink)
     }
 }
 
-/// Sound media header (ISO/IEC 14496-12, 12.2.2).
-type SmhdShown = Full<256, Last<I16>>;
-
-/// The names of its fields.
-const SMHD: <SmhdShown as NamedShape>::Names = names_of!(
-    VERSION,
-    FLAGS,
-    number!("balance", Fixed(8))
-);
+/// The fields of a sound media header (ISO/IEC 14496-12, 12.2.2).
+const SMHD: &[NumberName] = &[VERSION, FLAGS, number!("balance", Fixed(8))];
 
 impl BoxFields for SmhdBox {
-    ghost shown = { λ view b. ⟦<SmhdShown as NamedShape>⟧.shown SMHD view (b.version, (b.flags, (b.balance, tt))) };
+    ghost shown = { λ view b. shown_row SMHD.now (smhd_row b) };
 
-    ghost whole = { λ view b. ⟦<SmhdShown as NamedShape>⟧.whole SMHD view (b.version, (b.flags, (b.balance, tt))) };
+    ghost whole = { λ view b. whole_row SMHD.now (smhd_row b) };
 
-    fn show<K: FieldSink>(&self, view: View, sink: &mut K) -> Result<()> {
-        let parts = parts_of!(self => version, flags, balance.raw_value());
-        show_shape::<SmhdShown, _, K>(SMHD, view, parts, sink)
+    fn show<K: FieldSink>(&self, _view: View, sink: &mut K) -> Result<()> {
+        let parts = [
+            Part::U8(self.version),
+            Part::U32(self.flags),
+            Part::I16(self.balance.raw_value()),
+        ];
+        put_row(SMHD, &parts, sink)
     }
 }
 
-/// A reference to media data by a location (ISO/IEC 14496-12, 8.7.2).
-pub type UrlShown = Full<256, Last<LossyText>>;
-
-/// The names of its fields.
-pub const URL: <UrlShown as NamedShape>::Names = names_of!(
+/// The fields of a reference to media data by a location (ISO/IEC 14496-12, 8.7.2).
+pub(crate) const URL: &[NumberName] = &[
     VERSION,
     number!("flags", Flags(6), REFERENCE),
-    "location"
-);
+    field!("location"),
+];
 
 impl BoxFields for UrlBox {
-    ghost shown = { λ view b. ⟦<UrlShown as NamedShape>⟧.shown URL view (b.version, (b.flags, (b.location, tt))) };
+    ghost shown = { λ view b. shown_row URL.now (url_row b) };
 
-    ghost whole = { λ view b. ⟦<UrlShown as NamedShape>⟧.whole URL view (b.version, (b.flags, (b.location, tt))) };
+    ghost whole = { λ view b. whole_row URL.now (url_row b) };
 
-    fn show<K: FieldSink>(&self, view: View, sink: &mut K) -> Result<()> {
-        let parts = parts_of!(self => version, flags, location.as_bytes());
-        show_shape::<UrlShown, _, K>(URL, view, parts, sink)
+    fn show<K: FieldSink>(&self, _view: View, sink: &mut K) -> Result<()> {
+        let parts = [
+            Part::U8(self.version),
+            Part::U32(self.flags),
+            Part::Text(self.location.as_bytes()),
+        ];
+        put_row(URL, &parts, sink)
     }
 }
 
 /// The references to media data (ISO/IEC 14496-12, 8.7.2). The codec keeps the last `url `.
-type DrefShown = Full<256, Last<Optional<Group<FieldsOf<UrlBox>>>>>;
-
-/// The names of its fields.
-const DREF: <DrefShown as NamedShape>::Names = names_of!(VERSION, FLAGS, ("url ", ()));
-
 impl BoxFields for DrefBox {
-    ghost shown = { λ view b. ⟦<DrefShown as NamedShape>⟧.shown DREF view (b.version, (b.flags, (b.url, tt))) };
+    ghost shown = { λ view b. row_and_group_if FULL.now (full_row b.version b.flags) (codes "url ")
+        (⟦<UrlBox as BoxFields>⟧.shown view) b.url };
 
-    ghost whole = { λ view b. ⟦<DrefShown as NamedShape>⟧.whole DREF view (b.version, (b.flags, (b.url, tt))) };
+    ghost whole = { λ view b. whole_row_and_group_if FULL.now (full_row b.version b.flags) (codes "url ")
+        (⟦<UrlBox as BoxFields>⟧.shown view) (⟦<UrlBox as BoxFields>⟧.whole view) b.url };
 
     fn show<K: FieldSink>(&self, view: View, sink: &mut K) -> Result<()> {
-        let parts = parts_of!(self => version, flags, url.as_ref());
-        show_shape::<DrefShown, _, K>(DREF, view, parts, sink)
+        let parts = [Part::U8(self.version), Part::U32(self.flags)];
+        put_row(FULL, &parts, sink)?;
+        put_group_if("url ", &self.url, view, sink)
     }
 }
 
 /// The place of media data (ISO/IEC 14496-12, 8.7.1).
-type DinfShown = Group<FieldsOf<DrefBox>>;
-
-/// The names of its fields.
-const DINF: <DinfShown as NamedShape>::Names = ("dref", ());
-
 impl BoxFields for DinfBox {
-    ghost shown = { λ view b. ⟦<DinfShown as NamedShape>⟧.shown DINF view b.dref };
+    ghost shown = { λ view b. shown_group (codes "dref") (⟦<DrefBox as BoxFields>⟧.shown view b.dref) };
 
-    ghost whole = { λ view b. ⟦<DinfShown as NamedShape>⟧.whole DINF view b.dref };
+    ghost whole = { λ view b. whole_group (codes "dref") (⟦<DrefBox as BoxFields>⟧.shown view b.dref)
+        (⟦<DrefBox as BoxFields>⟧.whole view b.dref) };
 
     fn show<K: FieldSink>(&self, view: View, sink: &mut K) -> Result<()> {
-        show_shape::<DinfShown, _, K>(DINF, view, self.dref(), sink)
+        put_group("dref", self.dref(), view, sink)
     }
 }

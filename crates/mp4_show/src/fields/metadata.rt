@@ -1,20 +1,19 @@
 //! The fields of metadata and of events.
 
-ghost use Rattle.std.specs.Prelude.{◌≡◌, OnOk};
+ghost use Rattle.std.specs.Prelude.{◌≡◌, ◌++◌, OnOk};
 ghost use Rattle.mp4_media.specs.DataType.{number_data_type};
+ghost use Rattle.mp4_show.specs.BoxRows.{data_row, emsg_row};
 ghost use Rattle.mp4_show.specs.Metadata.{integer, shown_integer, shown_value, whole_value};
+ghost use Rattle.mp4_show.specs.Row.{shown_row, whole_row};
 ghost use Rattle.mp4_show.specs.declared.fields.metadata.TheConstants.{DATA, EMSG};
 ghost use Rattle.mp4_shown.specs.Hands.{Hands};
+ghost use Rattle.mp4_shown.specs.Members.{members_append};
 
 use crate::box_fields::BoxFields;
-use crate::shapes::{LossyText, Optional};
-use mp4_declared::{Full, Last, Rest, U32, U64, parts_of};
+use crate::row::{Part, field, put_row};
 use mp4_frame::{i8_at, i16_at, i32_at};
-use mp4_shown::{
-    FLAGS, FieldSink, Meaning, NamedShape, Result, ShowShape, VERSION, Value, View, names_of,
-    number, run, show_shape,
-};
-use mp4_stream::{DataBox, DataType, EmsgBox, Entries};
+use mp4_shown::{FLAGS, FieldSink, Meaning, NumberName, Result, VERSION, Value, View, number};
+use mp4_stream::{DataBox, DataType, EmsgBox};
 
 /// The types of metadata values that the codec reads (QuickTime File Format, "Well-known types").
 const DATA_TYPES: &[Meaning] = &[
@@ -61,137 +60,70 @@ fn put_integer<K: FieldSink>(number: Option<i64>, bytes: &[u8], sink: &mut K) ->
     }
 }
 
-/// A metadata value: the number of its type, and its bytes.
-struct MetadataValue;
-
-impl NamedShape for MetadataValue {
-    type Value = (u32, Entries<u8>);
-
-    type Names = ();
-
-    ghost Seen = { Unit {0} };
-
-    ghost seen = { λ names. names };
-
-    ghost shown = { λ names view v. shown_value v.0 v.1 };
-
-    ghost whole = { λ names view v. whole_value v.0 v.1 };
-}
-
-impl<'a> ShowShape<(u32, &'a [u8])> for MetadataValue {
-    ghost content = { λ v. (v.0, v.1.now) };
-
-    fn show<K: FieldSink>(
-        _names: (),
-        _view: View,
-        value: (u32, &'a [u8]),
-        sink: &mut K,
-    ) -> Result<()> {
-        let (data_type, bytes) = value;
-        if data_type == 1 {
-            return sink.field("text", Value::Text(bytes));
-        }
-        if data_type == 21 {
-            return put_integer(integer(bytes), bytes, sink);
-        }
-        sink.field("data_bytes", Value::Bytes(bytes))
+/// Hands a metadata value to a sink, of the type with the number `data_type`.
+fn put_value<K: FieldSink>(data_type: u32, bytes: &[u8], sink: &mut K) -> Result<()>
+    ensures { OnOk result (Hands K.trace K.after sink.old (shown_value data_type bytes.now) sink.new) }
+{
+    if data_type == 1 {
+        return sink.field("text", Value::Text(bytes));
     }
+    if data_type == 21 {
+        return put_integer(integer(bytes), bytes, sink);
+    }
+    sink.field("data_bytes", Value::Bytes(bytes))
 }
 
-/// The value of a metadata item (QuickTime File Format, "Data atom").
-type DataShown = (U32, Last<MetadataValue>);
-
-/// The names of its fields.
-const DATA: <DataShown as NamedShape>::Names = names_of!(
-    number!("data_type", Named, DATA_TYPES),
-    ()
-);
+/// The field of a metadata item before its value (QuickTime File Format, "Data atom").
+const DATA: &[NumberName] = &[number!("data_type", Named, DATA_TYPES)];
 
 impl BoxFields for DataBox {
-    ghost shown = { λ view b. ⟦<DataShown as NamedShape>⟧.shown DATA view
-        (number_data_type b.data_type, ((number_data_type b.data_type, b.data_bytes), tt)) };
+    ghost shown = { λ view b. shown_row DATA.now (data_row b)
+        ++ shown_value (number_data_type b.data_type) b.data_bytes };
 
-    ghost whole = { λ view b. ⟦<DataShown as NamedShape>⟧.whole DATA view
-        (number_data_type b.data_type, ((number_data_type b.data_type, b.data_bytes), tt)) };
+    ghost whole = { λ view b. members_append (shown_row DATA.now (data_row b))
+        (shown_value (number_data_type b.data_type) b.data_bytes) (whole_row DATA.now (data_row b))
+        (whole_value (number_data_type b.data_type) b.data_bytes) };
 
-    fn show<K: FieldSink>(&self, view: View, sink: &mut K) -> Result<()> {
+    fn show<K: FieldSink>(&self, _view: View, sink: &mut K) -> Result<()> {
         let data_type = number_data_type(&self.data_type);
-        let value = (data_type, self.data_bytes.as_slice());
-        show_shape::<DataShown, _, K>(DATA, view, (data_type, (value, ())), sink)
+        let parts = [Part::U32(data_type)];
+        put_row(DATA, &parts, sink)?;
+        put_value(data_type, self.data_bytes.as_slice(), sink)
     }
 }
 
-/// An event (ISO/IEC 23009-1, 5.10.3.3). The field of the other version is left out.
-type EmsgShown = Full<
-    256,
-    (
-        LossyText,
-        LossyText,
-        U32,
-        Optional<U64>,
-        (Optional<U32>, U32, U32, Last<Rest>),
-    ),
->;
-
-/// The names of its fields.
-const EMSG: <EmsgShown as NamedShape>::Names = names_of!(
+/// The fields of an event (ISO/IEC 23009-1, 5.10.3.3). The field of the other version is left out.
+const EMSG: &[NumberName] = &[
     VERSION,
     FLAGS,
-    "scheme_id_uri",
-    "value",
+    field!("scheme_id_uri"),
+    field!("value"),
     number!("timescale"),
     number!("presentation_time"),
     number!("presentation_time_delta"),
     number!("event_duration"),
     number!("id"),
-    run!("message_data", Bytes)
-);
+    field!("message_data"),
+];
 
 impl BoxFields for EmsgBox {
-    ghost shown = { λ view b. ⟦<EmsgShown as NamedShape>⟧.shown EMSG view (
-      b.version,
-      (
-        b.flags,
-        (
-          b.scheme_id_uri,
-          (
-            b.value,
-            (
-              b.timescale,
-              (
-                b.presentation_time,
-                (b.presentation_time_delta, (b.event_duration, (b.id, (b.message_data, tt)))),
-              ),
-            ),
-          ),
-        ),
-      ),
-    ) };
+    ghost shown = { λ view b. shown_row EMSG.now (emsg_row b) };
 
-    ghost whole = { λ view b. ⟦<EmsgShown as NamedShape>⟧.whole EMSG view (
-      b.version,
-      (
-        b.flags,
-        (
-          b.scheme_id_uri,
-          (
-            b.value,
-            (
-              b.timescale,
-              (
-                b.presentation_time,
-                (b.presentation_time_delta, (b.event_duration, (b.id, (b.message_data, tt)))),
-              ),
-            ),
-          ),
-        ),
-      ),
-    ) };
+    ghost whole = { λ view b. whole_row EMSG.now (emsg_row b) };
 
-    fn show<K: FieldSink>(&self, view: View, sink: &mut K) -> Result<()> {
-        let parts =
-            parts_of!(self => version, flags, scheme_id_uri.as_bytes(), value.as_bytes(), timescale,
-            presentation_time, presentation_time_delta, event_duration, id, message_data.as_slice());
-        show_shape::<EmsgShown, _, K>(EMSG, view, parts, sink)
+    fn show<K: FieldSink>(&self, _view: View, sink: &mut K) -> Result<()> {
+        let parts = [
+            Part::U8(self.version),
+            Part::U32(self.flags),
+            Part::Text(self.scheme_id_uri.as_bytes()),
+            Part::Text(self.value.as_bytes()),
+            Part::U32(self.timescale),
+            Part::SomeU64(self.presentation_time),
+            Part::SomeU32(self.presentation_time_delta),
+            Part::U32(self.event_duration),
+            Part::U32(self.id),
+            Part::Bytes(self.message_data.as_slice()),
+        ];
+        put_row(EMSG, &parts, sink)
     }
 }

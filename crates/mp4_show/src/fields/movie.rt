@@ -1,44 +1,38 @@
 //! The fields of a file's type and of a movie's header.
 
-ghost use Rattle.std.specs.Int.{w16, w32, cast_signed};
+ghost use Rattle.mp4_show.specs.BoxRows.{ftyp_row, mvhd_row};
+ghost use Rattle.mp4_show.specs.Row.{shown_row, whole_row};
 ghost use Rattle.mp4_show.specs.declared.fields.movie.TheConstants.{FTYP, MVHD};
 
 use crate::box_fields::BoxFields;
-use crate::shapes::Transformation;
-use mp4_declared::{Code, Codes, Full, I16, I32, Last, U32, U64, parts_of};
-use mp4_shown::{
-    FLAGS, FieldSink, NamedShape, Result, VERSION, View, names_of, number, show_shape,
-};
+use crate::row::{Part, field, put_row};
+use mp4_shown::{FLAGS, FieldSink, NumberName, Result, VERSION, View, number};
 use mp4_stream::{FtypBox, MvhdBox};
 
-/// File type (ISO/IEC 14496-12, 4.3).
-type FtypShown = (Code, U32, Last<Codes>);
-
-/// The names of its fields.
-const FTYP: <FtypShown as NamedShape>::Names = names_of!(
-    "major_brand",
+/// The fields of a file type (ISO/IEC 14496-12, 4.3).
+const FTYP: &[NumberName] = &[
+    field!("major_brand"),
     number!("minor_version"),
-    "compatible_brands"
-);
+    field!("compatible_brands"),
+];
 
 impl BoxFields for FtypBox {
-    ghost shown = { λ view b. ⟦<FtypShown as NamedShape>⟧.shown FTYP view
-        (b.major_brand, (b.minor_version, (b.compatible_brands, tt))) };
+    ghost shown = { λ view b. shown_row FTYP.now (ftyp_row b) };
 
-    ghost whole = { λ view b. ⟦<FtypShown as NamedShape>⟧.whole FTYP view
-        (b.major_brand, (b.minor_version, (b.compatible_brands, tt))) };
+    ghost whole = { λ view b. whole_row FTYP.now (ftyp_row b) };
 
-    fn show<K: FieldSink>(&self, view: View, sink: &mut K) -> Result<()> {
-        let parts = parts_of!(self => major_brand, minor_version, compatible_brands.as_slice());
-        show_shape::<FtypShown, _, K>(FTYP, view, parts, sink)
+    fn show<K: FieldSink>(&self, _view: View, sink: &mut K) -> Result<()> {
+        let parts = [
+            Part::Code(self.major_brand),
+            Part::U32(self.minor_version),
+            Part::Codes(self.compatible_brands.as_slice()),
+        ];
+        put_row(FTYP, &parts, sink)
     }
 }
 
-/// Movie header (ISO/IEC 14496-12, 8.2.2). The standard has a sign in `rate` and `volume`.
-type MvhdShown = Full<256, (U64, U64, U32, U64, (I32, I16, Transformation, Last<U32>))>;
-
-/// The names of its fields.
-const MVHD: <MvhdShown as NamedShape>::Names = names_of!(
+/// The fields of a movie header (ISO/IEC 14496-12, 8.2.2). The standard has a sign in `rate` and `volume`.
+const MVHD: &[NumberName] = &[
     VERSION,
     FLAGS,
     number!("creation_time", Date),
@@ -47,57 +41,28 @@ const MVHD: <MvhdShown as NamedShape>::Names = names_of!(
     number!("duration"),
     number!("rate", Fixed(16)),
     number!("volume", Fixed(8)),
-    "matrix",
-    number!("next_track_ID")
-);
+    field!("matrix"),
+    number!("next_track_ID"),
+];
 
 impl BoxFields for MvhdBox {
-    ghost shown = { λ view b. ⟦<MvhdShown as NamedShape>⟧.shown MVHD view (
-      b.version,
-      (
-        b.flags,
-        (
-          b.creation_time,
-          (
-            b.modification_time,
-            (
-              b.timescale,
-              (
-                b.duration,
-                (cast_signed w32 b.rate, (cast_signed w16 b.volume, (b.matrix, (b.next_track_id, tt)))),
-              ),
-            ),
-          ),
-        ),
-      ),
-    ) };
+    ghost shown = { λ view b. shown_row MVHD.now (mvhd_row b) };
 
-    ghost whole = { λ view b. ⟦<MvhdShown as NamedShape>⟧.whole MVHD view (
-      b.version,
-      (
-        b.flags,
-        (
-          b.creation_time,
-          (
-            b.modification_time,
-            (
-              b.timescale,
-              (
-                b.duration,
-                (cast_signed w32 b.rate, (cast_signed w16 b.volume, (b.matrix, (b.next_track_id, tt)))),
-              ),
-            ),
-          ),
-        ),
-      ),
-    ) };
+    ghost whole = { λ view b. whole_row MVHD.now (mvhd_row b) };
 
-    fn show<K: FieldSink>(&self, view: View, sink: &mut K) -> Result<()> {
-        let rate = self.rate.raw_value().cast_signed();
-        let volume = self.volume.raw_value().cast_signed();
-        let matrix = &self.matrix;
-        let parts = parts_of!(self => version, flags, creation_time, modification_time, timescale,
-            duration, = rate, = volume, = matrix, next_track_id);
-        show_shape::<MvhdShown, _, K>(MVHD, view, parts, sink)
+    fn show<K: FieldSink>(&self, _view: View, sink: &mut K) -> Result<()> {
+        let parts = [
+            Part::U8(self.version),
+            Part::U32(self.flags),
+            Part::U64(self.creation_time),
+            Part::U64(self.modification_time),
+            Part::U32(self.timescale),
+            Part::U64(self.duration),
+            Part::I32(self.rate.raw_value().cast_signed()),
+            Part::I16(self.volume.raw_value().cast_signed()),
+            Part::Matrix(&self.matrix),
+            Part::U32(self.next_track_id),
+        ];
+        put_row(MVHD, &parts, sink)
     }
 }

@@ -1,205 +1,185 @@
 //! The fields of the sample entry of MPEG-4 audio, of its descriptors, and of sample descriptions.
 
-ghost use Rattle.mp4_show.specs.declared.fields.sound.TheConstants.{CONFIG, ESDS, MP4A, SPECIFIC, STREAM, STSD};
+ghost use Rattle.std.specs.Prelude.{◌++◌, OnOk, codes};
+ghost use Rattle.mp4_show.specs.Descriptions.{shown_others, shown_video, whole_others, whole_video};
+ghost use Rattle.mp4_show.specs.Row.{full_row, row_and_group, row_and_group_if, shown_row, whole_row};
+ghost use Rattle.mp4_show.specs.Row.{whole_row_and_group, whole_row_and_group_if};
+ghost use Rattle.mp4_show.specs.SoundRows.{config_row, mp4a_row, specific_row, stream_row};
+ghost use Rattle.mp4_show.specs.declared.fields.sound.TheConstants.{CONFIG, MP4A, SPECIFIC, STREAM};
+ghost use Rattle.mp4_show.specs.declared.row.TheConstants.{FULL};
+ghost use Rattle.mp4_shown.specs.Hands.{Hands};
+ghost use Rattle.mp4_shown.specs.Members.{members_append};
 
 use crate::box_fields::BoxFields;
-use crate::shapes::{FieldsOf, Optional};
-use mp4_declared::{Full, Last, U8, U16, U32, parts_of};
-use mp4_shown::{
-    FLAGS, FieldSink, Group, NamedShape, Result, VERSION, View, names_of, number, show_shape,
-};
+use crate::row::{FULL, Part, put_group, put_group_if, put_row};
+use mp4_shown::{FieldSink, NumberName, Result, View, number};
 use mp4_stream::{
     Avc1Box, DecoderConfigDescriptor, DecoderSpecificDescriptor, ESDescriptor, EsdsBox, Hev1Box,
     Mp4aBox, StsdBox, Tx3gBox, Vp09Box,
 };
 
 /// The configuration of a decoder of MPEG-4 audio (ISO/IEC 14496-3, 1.6.2.1).
-type SpecificShown = (U8, U8, Optional<U32>, Last<U8>);
-
-/// The names of its fields.
-const SPECIFIC: <SpecificShown as NamedShape>::Names = names_of!(
+const SPECIFIC: &[NumberName] = &[
     number!("audioObjectType"),
     number!("samplingFrequencyIndex"),
     number!("samplingFrequency"),
-    number!("channelConfiguration")
-);
+    number!("channelConfiguration"),
+];
 
 impl BoxFields for DecoderSpecificDescriptor {
-    ghost shown = { λ view b. ⟦<SpecificShown as NamedShape>⟧.shown SPECIFIC view
-        (b.profile, (b.freq_index, (b.sample_rate, (b.chan_conf, tt)))) };
+    ghost shown = { λ view b. shown_row SPECIFIC.now (specific_row b) };
 
-    ghost whole = { λ view b. ⟦<SpecificShown as NamedShape>⟧.whole SPECIFIC view
-        (b.profile, (b.freq_index, (b.sample_rate, (b.chan_conf, tt)))) };
+    ghost whole = { λ view b. whole_row SPECIFIC.now (specific_row b) };
 
-    fn show<K: FieldSink>(&self, view: View, sink: &mut K) -> Result<()> {
-        let parts = parts_of!(self => profile, freq_index, sample_rate, chan_conf);
-        show_shape::<SpecificShown, _, K>(SPECIFIC, view, parts, sink)
+    fn show<K: FieldSink>(&self, _view: View, sink: &mut K) -> Result<()> {
+        let parts = [
+            Part::U8(self.profile),
+            Part::U8(self.freq_index),
+            Part::SomeU32(self.sample_rate),
+            Part::U8(self.chan_conf),
+        ];
+        put_row(SPECIFIC, &parts, sink)
     }
 }
 
 /// The configuration of the decoder of a stream (ISO/IEC 14496-1, 7.2.6.6).
-type ConfigShown = (
-    U8,
-    U8,
-    U8,
-    U32,
-    (U32, U32, Last<Group<FieldsOf<DecoderSpecificDescriptor>>>),
-);
-
-/// The names of its fields.
-const CONFIG: <ConfigShown as NamedShape>::Names = names_of!(
+const CONFIG: &[NumberName] = &[
     number!("objectTypeIndication"),
     number!("streamType"),
     number!("upStream"),
     number!("bufferSizeDB"),
     number!("maxBitrate"),
     number!("avgBitrate"),
-    ("decSpecificInfo", ())
-);
+];
 
 impl BoxFields for DecoderConfigDescriptor {
-    ghost shown = { λ view b. ⟦<ConfigShown as NamedShape>⟧.shown CONFIG view (
-      b.object_type_indication,
-      (
-        b.stream_type,
-        (
-          b.up_stream,
-          (
-            b.buffer_size_db,
-            (
-              b.max_bitrate,
-              (b.avg_bitrate, (b.dec_specific, tt)),
-            ),
-          ),
-        ),
-      ),
-    ) };
+    ghost shown = { λ view b. row_and_group CONFIG.now (config_row b) (codes "decSpecificInfo")
+        (⟦<DecoderSpecificDescriptor as BoxFields>⟧.shown view b.dec_specific) };
 
-    ghost whole = { λ view b. ⟦<ConfigShown as NamedShape>⟧.whole CONFIG view (
-      b.object_type_indication,
-      (
-        b.stream_type,
-        (
-          b.up_stream,
-          (
-            b.buffer_size_db,
-            (
-              b.max_bitrate,
-              (b.avg_bitrate, (b.dec_specific, tt)),
-            ),
-          ),
-        ),
-      ),
-    ) };
+    ghost whole = { λ view b. whole_row_and_group CONFIG.now (config_row b) (codes "decSpecificInfo")
+        (⟦<DecoderSpecificDescriptor as BoxFields>⟧.shown view b.dec_specific)
+        (⟦<DecoderSpecificDescriptor as BoxFields>⟧.whole view b.dec_specific) };
 
     fn show<K: FieldSink>(&self, view: View, sink: &mut K) -> Result<()> {
-        let specific = &self.dec_specific;
-        let parts =
-            parts_of!(self => object_type_indication, stream_type, up_stream, buffer_size_db, max_bitrate,
-            avg_bitrate, = specific);
-        show_shape::<ConfigShown, _, K>(CONFIG, view, parts, sink)
+        let parts = [
+            Part::U8(self.object_type_indication),
+            Part::U8(self.stream_type),
+            Part::U8(self.up_stream),
+            Part::U32(self.buffer_size_db),
+            Part::U32(self.max_bitrate),
+            Part::U32(self.avg_bitrate),
+        ];
+        put_row(CONFIG, &parts, sink)?;
+        put_group("decSpecificInfo", &self.dec_specific, view, sink)
     }
 }
 
 /// The description of a stream (ISO/IEC 14496-1, 7.2.6.5).
-type StreamShown = (U16, Last<Group<FieldsOf<DecoderConfigDescriptor>>>);
-
-/// The names of its fields.
-const STREAM: <StreamShown as NamedShape>::Names = names_of!(
-    number!("ES_ID"),
-    ("decConfigDescr", ())
-);
+const STREAM: &[NumberName] = &[number!("ES_ID")];
 
 impl BoxFields for ESDescriptor {
-    ghost shown = { λ view b. ⟦<StreamShown as NamedShape>⟧.shown STREAM view (b.es_id, (b.dec_config, tt)) };
+    ghost shown = { λ view b. row_and_group STREAM.now (stream_row b) (codes "decConfigDescr")
+        (⟦<DecoderConfigDescriptor as BoxFields>⟧.shown view b.dec_config) };
 
-    ghost whole = { λ view b. ⟦<StreamShown as NamedShape>⟧.whole STREAM view (b.es_id, (b.dec_config, tt)) };
+    ghost whole = { λ view b. whole_row_and_group STREAM.now (stream_row b) (codes "decConfigDescr")
+        (⟦<DecoderConfigDescriptor as BoxFields>⟧.shown view b.dec_config)
+        (⟦<DecoderConfigDescriptor as BoxFields>⟧.whole view b.dec_config) };
 
     fn show<K: FieldSink>(&self, view: View, sink: &mut K) -> Result<()> {
-        let config = &self.dec_config;
-        show_shape::<StreamShown, _, K>(STREAM, view, (self.es_id, (config, ())), sink)
+        let parts = [Part::U16(self.es_id)];
+        put_row(STREAM, &parts, sink)?;
+        put_group("decConfigDescr", &self.dec_config, view, sink)
     }
 }
 
 /// The box with the description of a stream of MPEG-4 audio (ISO/IEC 14496-14, 5.6).
-type EsdsShown = Full<256, Last<Group<FieldsOf<ESDescriptor>>>>;
-
-/// The names of its fields.
-const ESDS: <EsdsShown as NamedShape>::Names = names_of!(VERSION, FLAGS, ("ES", ()));
-
 impl BoxFields for EsdsBox {
-    ghost shown = { λ view b. ⟦<EsdsShown as NamedShape>⟧.shown ESDS view (b.version, (b.flags, (b.es_desc, tt))) };
+    ghost shown = { λ view b. row_and_group FULL.now (full_row b.version b.flags) (codes "ES")
+        (⟦<ESDescriptor as BoxFields>⟧.shown view b.es_desc) };
 
-    ghost whole = { λ view b. ⟦<EsdsShown as NamedShape>⟧.whole ESDS view (b.version, (b.flags, (b.es_desc, tt))) };
+    ghost whole = { λ view b. whole_row_and_group FULL.now (full_row b.version b.flags) (codes "ES")
+        (⟦<ESDescriptor as BoxFields>⟧.shown view b.es_desc) (⟦<ESDescriptor as BoxFields>⟧.whole view b.es_desc) };
 
     fn show<K: FieldSink>(&self, view: View, sink: &mut K) -> Result<()> {
-        let stream = &self.es_desc;
-        let parts = parts_of!(self => version, flags, = stream);
-        show_shape::<EsdsShown, _, K>(ESDS, view, parts, sink)
+        let parts = [Part::U8(self.version), Part::U32(self.flags)];
+        put_row(FULL, &parts, sink)?;
+        put_group("ES", &self.es_desc, view, sink)
     }
 }
 
-/// A sample entry of MPEG-4 audio (ISO/IEC 14496-14, 5.6).
-type Mp4aShown = (U16, U16, U16, U32, Last<Optional<Group<FieldsOf<EsdsBox>>>>);
-
-/// The names of its fields.
-const MP4A: <Mp4aShown as NamedShape>::Names = names_of!(
+/// The fields of a sample entry of MPEG-4 audio before its descriptors (ISO/IEC 14496-14, 5.6).
+const MP4A: &[NumberName] = &[
     number!("data_reference_index"),
     number!("channelcount"),
     number!("samplesize"),
     number!("samplerate", Fixed(16)),
-    ("esds", ())
-);
+];
 
 impl BoxFields for Mp4aBox {
-    ghost shown = { λ view b. ⟦<Mp4aShown as NamedShape>⟧.shown MP4A view
-        (b.data_reference_index, (b.channelcount, (b.samplesize, (b.samplerate, (b.esds, tt))))) };
+    ghost shown = { λ view b. row_and_group_if MP4A.now (mp4a_row b) (codes "esds")
+        (⟦<EsdsBox as BoxFields>⟧.shown view) b.esds };
 
-    ghost whole = { λ view b. ⟦<Mp4aShown as NamedShape>⟧.whole MP4A view
-        (b.data_reference_index, (b.channelcount, (b.samplesize, (b.samplerate, (b.esds, tt))))) };
+    ghost whole = { λ view b. whole_row_and_group_if MP4A.now (mp4a_row b) (codes "esds")
+        (⟦<EsdsBox as BoxFields>⟧.shown view) (⟦<EsdsBox as BoxFields>⟧.whole view) b.esds };
 
     fn show<K: FieldSink>(&self, view: View, sink: &mut K) -> Result<()> {
-        let parts =
-            parts_of!(self => data_reference_index, channelcount, samplesize, samplerate.raw_value(),
-            esds.as_ref());
-        show_shape::<Mp4aShown, _, K>(MP4A, view, parts, sink)
+        let parts = [
+            Part::U16(self.data_reference_index),
+            Part::U16(self.channelcount),
+            Part::U16(self.samplesize),
+            Part::U32(self.samplerate.raw_value()),
+        ];
+        put_row(MP4A, &parts, sink)?;
+        put_group_if("esds", &self.esds, view, sink)
     }
 }
 
+/// Hands the sample entries of video in sample descriptions to a sink.
+fn put_video<K: FieldSink>(b: &StsdBox, view: View, sink: &mut K) -> Result<()>
+    ensures { OnOk result (Hands K.trace K.after sink.old
+        (shown_video (⟦<Avc1Box as BoxFields>⟧.shown view) (⟦<Hev1Box as BoxFields>⟧.shown view)
+        (⟦<Vp09Box as BoxFields>⟧.shown view) b.now) sink.new) }
+{
+    put_group_if("avc1", &b.avc1, view, sink)?;
+    put_group_if("hev1", &b.hev1, view, sink)?;
+    put_group_if("vp09", &b.vp09, view, sink)
+}
+
+/// Hands the sample entries of sound and text in sample descriptions to a sink.
+fn put_others<K: FieldSink>(b: &StsdBox, view: View, sink: &mut K) -> Result<()>
+    ensures { OnOk result (Hands K.trace K.after sink.old
+        (shown_others (⟦<Mp4aBox as BoxFields>⟧.shown view) (⟦<Tx3gBox as BoxFields>⟧.shown view) b.now) sink.new) }
+{
+    put_group_if("mp4a", &b.mp4a, view, sink)?;
+    put_group_if("tx3g", &b.tx3g, view, sink)
+}
+
 /// Sample descriptions (ISO/IEC 14496-12, 8.5.2). The codec reads the first.
-type StsdShown = Full<
-    256,
-    (
-        Optional<Group<FieldsOf<Avc1Box>>>,
-        Optional<Group<FieldsOf<Hev1Box>>>,
-        Optional<Group<FieldsOf<Vp09Box>>>,
-        Optional<Group<FieldsOf<Mp4aBox>>>,
-        Last<Optional<Group<FieldsOf<Tx3gBox>>>>,
-    ),
->;
-
-/// The names of its fields.
-const STSD: <StsdShown as NamedShape>::Names = names_of!(
-    VERSION,
-    FLAGS,
-    ("avc1", ()),
-    ("hev1", ()),
-    ("vp09", ()),
-    ("mp4a", ()),
-    ("tx3g", ())
-);
-
 impl BoxFields for StsdBox {
-    ghost shown = { λ view b. ⟦<StsdShown as NamedShape>⟧.shown STSD view
-        (b.version, (b.flags, (b.avc1, (b.hev1, (b.vp09, (b.mp4a, (b.tx3g, tt))))))) };
+    ghost shown = { λ view b. shown_row FULL.now (full_row b.version b.flags)
+        ++ (shown_video (⟦<Avc1Box as BoxFields>⟧.shown view) (⟦<Hev1Box as BoxFields>⟧.shown view)
+        (⟦<Vp09Box as BoxFields>⟧.shown view) b
+        ++ shown_others (⟦<Mp4aBox as BoxFields>⟧.shown view) (⟦<Tx3gBox as BoxFields>⟧.shown view) b) };
 
-    ghost whole = { λ view b. ⟦<StsdShown as NamedShape>⟧.whole STSD view
-        (b.version, (b.flags, (b.avc1, (b.hev1, (b.vp09, (b.mp4a, (b.tx3g, tt))))))) };
+    ghost whole = { λ view b. members_append (shown_row FULL.now (full_row b.version b.flags))
+        (shown_video (⟦<Avc1Box as BoxFields>⟧.shown view) (⟦<Hev1Box as BoxFields>⟧.shown view)
+        (⟦<Vp09Box as BoxFields>⟧.shown view) b
+        ++ shown_others (⟦<Mp4aBox as BoxFields>⟧.shown view) (⟦<Tx3gBox as BoxFields>⟧.shown view) b)
+        (whole_row FULL.now (full_row b.version b.flags))
+        (members_append
+        (shown_video (⟦<Avc1Box as BoxFields>⟧.shown view) (⟦<Hev1Box as BoxFields>⟧.shown view)
+        (⟦<Vp09Box as BoxFields>⟧.shown view) b)
+        (shown_others (⟦<Mp4aBox as BoxFields>⟧.shown view) (⟦<Tx3gBox as BoxFields>⟧.shown view) b)
+        (whole_video (⟦<Avc1Box as BoxFields>⟧.shown view) (⟦<Avc1Box as BoxFields>⟧.whole view)
+        (⟦<Hev1Box as BoxFields>⟧.shown view) (⟦<Hev1Box as BoxFields>⟧.whole view)
+        (⟦<Vp09Box as BoxFields>⟧.shown view) (⟦<Vp09Box as BoxFields>⟧.whole view) b)
+        (whole_others (⟦<Mp4aBox as BoxFields>⟧.shown view) (⟦<Mp4aBox as BoxFields>⟧.whole view)
+        (⟦<Tx3gBox as BoxFields>⟧.shown view) (⟦<Tx3gBox as BoxFields>⟧.whole view) b)) };
 
     fn show<K: FieldSink>(&self, view: View, sink: &mut K) -> Result<()> {
-        let parts =
-            parts_of!(self => version, flags, avc1.as_ref(), hev1.as_ref(), vp09.as_ref(), mp4a.as_ref(),
-            tx3g.as_ref());
-        show_shape::<StsdShown, _, K>(STSD, view, parts, sink)
+        let parts = [Part::U8(self.version), Part::U32(self.flags)];
+        put_row(FULL, &parts, sink)?;
+        put_video(self, view, sink)?;
+        put_others(self, view, sink)
     }
 }

@@ -1,187 +1,107 @@
 //! The fields of the boxes of a track: its header, its edits, its media's header and handler.
 
-ghost use Rattle.std.specs.Prelude.{◌≡◌, ◌++◌};
-ghost use Rattle.std.specs.Int.{w16, cast_signed};
+ghost use Rattle.std.specs.Prelude.{◌≡◌, codes};
+ghost use Rattle.mp4_show.specs.BoxRows.{edit_row, hdlr_row, mdhd_row, tkhd_row};
 ghost use Rattle.mp4_show.specs.Edits.{signed_time};
-ghost use Rattle.mp4_show.specs.declared.fields.tracks.TheConstants.{EDIT, ELST, HDLR, MDHD, TKHD, TKHD_REST};
-ghost use Rattle.mp4_shown.specs.Lists.{entry_of};
-ghost use Rattle.mp4_shown.specs.Members.{members_append, whole_entry};
+ghost use Rattle.mp4_show.specs.Lists.{shown_table, whole_table};
+ghost use Rattle.mp4_show.specs.Row.{full_row, row_entry, shown_row, whole_row, whole_row_entry};
+ghost use Rattle.mp4_show.specs.declared.fields.tracks.TheConstants.{EDIT, HDLR, MDHD, TKHD};
+ghost use Rattle.mp4_show.specs.declared.row.TheConstants.{FULL};
 
 use crate::box_fields::BoxFields;
-use crate::entries_in::{BoxEntry, EntriesIn};
 use crate::flag_names::TRACK;
-use crate::language::Language;
-use crate::shapes::{LossyText, MediaTime, Transformation};
-use mp4_declared::{Code, Full, I16, Last, U32, U64, parts_of};
-use mp4_shown::{
-    FLAGS, FieldSink, NamedShape, Result, VERSION, View, names_of, number, show_shape,
-};
+use crate::lists::{BoxEntry, put_table};
+use crate::row::{FULL, Part, field, put_entry_row, put_row};
+use mp4_shown::{FLAGS, FieldSink, NumberName, Result, VERSION, View, number};
 use mp4_stream::{ElstBox, ElstEntry, HdlrBox, MdhdBox, TkhdBox};
 
-/// The front of a track header (ISO/IEC 14496-12, 8.3.2).
-type TkhdFront = Full<256, (U64, U64, U32, Last<U64>)>;
-
-/// The names of its fields.
-const TKHD: <TkhdFront as NamedShape>::Names = names_of!(
+/// The fields of a track header (ISO/IEC 14496-12, 8.3.2). The standard has a sign in `layer`, `alternate_group` and
+/// `volume`.
+const TKHD: &[NumberName] = &[
     VERSION,
     number!("flags", Flags(6), TRACK),
     number!("creation_time", Date),
     number!("modification_time", Date),
     number!("track_ID"),
-    number!("duration")
-);
-
-/// The fields of a track header after its duration. The standard has a sign in the first three.
-type TkhdRest = (I16, I16, I16, Transformation, (U32, Last<U32>));
-
-/// The names of its fields.
-const TKHD_REST: <TkhdRest as NamedShape>::Names = names_of!(
+    number!("duration"),
     number!("layer"),
     number!("alternate_group"),
     number!("volume", Fixed(8)),
-    "matrix",
+    field!("matrix"),
     number!("width", Fixed(16)),
-    number!("height", Fixed(16))
-);
+    number!("height", Fixed(16)),
+];
 
 impl BoxFields for TkhdBox {
-    ghost shown = { λ view b. ⟦<TkhdFront as NamedShape>⟧.shown TKHD view
-        (b.version, (b.flags, (b.creation_time, (b.modification_time, (b.track_id, (b.duration, tt))))))
-        ++ ⟦<TkhdRest as NamedShape>⟧.shown TKHD_REST view (
-          cast_signed w16 b.layer,
-          (
-            cast_signed w16 b.alternate_group,
-            (
-              cast_signed w16 b.volume,
-              (b.matrix, (b.width, (b.height, tt))),
-            ),
-          ),
-        ) };
+    ghost shown = { λ view b. shown_row TKHD.now (tkhd_row b) };
 
-    ghost whole = { λ view b. members_append (⟦<TkhdFront as NamedShape>⟧.shown TKHD view
-        (b.version, (b.flags, (b.creation_time, (b.modification_time, (b.track_id, (b.duration, tt)))))))
-        (⟦<TkhdRest as NamedShape>⟧.shown TKHD_REST view (
-          cast_signed w16 b.layer,
-          (
-            cast_signed w16 b.alternate_group,
-            (
-              cast_signed w16 b.volume,
-              (b.matrix, (b.width, (b.height, tt))),
-            ),
-          ),
-        ))
-        (⟦<TkhdFront as NamedShape>⟧.whole TKHD view
-        (b.version, (b.flags, (b.creation_time, (b.modification_time, (b.track_id, (b.duration, tt)))))))
-        (⟦<TkhdRest as NamedShape>⟧.whole TKHD_REST view (
-          cast_signed w16 b.layer,
-          (
-            cast_signed w16 b.alternate_group,
-            (
-              cast_signed w16 b.volume,
-              (b.matrix, (b.width, (b.height, tt))),
-            ),
-          ),
-        )) };
+    ghost whole = { λ view b. whole_row TKHD.now (tkhd_row b) };
 
-    fn show<K: FieldSink>(&self, view: View, sink: &mut K) -> Result<()> {
-        let layer = self.layer.cast_signed();
-        let alternate_group = self.alternate_group.cast_signed();
-        let volume = self.volume.raw_value().cast_signed();
-        let matrix = &self.matrix;
-        let front =
-            parts_of!(self => version, flags, creation_time, modification_time, track_id, duration);
-        let rest =
-            parts_of!(self => = layer, = alternate_group, = volume, = matrix, width.raw_value(),
-            height.raw_value());
-        show_shape::<TkhdFront, _, K>(TKHD, view, front, sink)?;
-        show_shape::<TkhdRest, _, K>(TKHD_REST, view, rest, sink)
+    fn show<K: FieldSink>(&self, _view: View, sink: &mut K) -> Result<()> {
+        let parts = [
+            Part::U8(self.version),
+            Part::U32(self.flags),
+            Part::U64(self.creation_time),
+            Part::U64(self.modification_time),
+            Part::U32(self.track_id),
+            Part::U64(self.duration),
+            Part::I16(self.layer.cast_signed()),
+            Part::I16(self.alternate_group.cast_signed()),
+            Part::I16(self.volume.raw_value().cast_signed()),
+            Part::Matrix(&self.matrix),
+            Part::U32(self.width.raw_value()),
+            Part::U32(self.height.raw_value()),
+        ];
+        put_row(TKHD, &parts, sink)
     }
 }
 
-/// Media header (ISO/IEC 14496-12, 8.4.2).
-type MdhdShown = Full<256, (U64, U64, U32, U64, Last<Language>)>;
-
-/// The names of its fields.
-const MDHD: <MdhdShown as NamedShape>::Names = names_of!(
+/// The fields of a media header (ISO/IEC 14496-12, 8.4.2).
+const MDHD: &[NumberName] = &[
     VERSION,
     FLAGS,
     number!("creation_time", Date),
     number!("modification_time", Date),
     number!("timescale"),
     number!("duration"),
-    "language"
-);
+    field!("language"),
+];
 
 impl BoxFields for MdhdBox {
-    ghost shown = { λ view b. ⟦<MdhdShown as NamedShape>⟧.shown MDHD view (
-      b.version,
-      (
-        b.flags,
-        (
-          b.creation_time,
-          (
-            b.modification_time,
-            (
-              b.timescale,
-              (
-                b.duration,
-                (b.language, tt),
-              ),
-            ),
-          ),
-        ),
-      ),
-    ) };
+    ghost shown = { λ view b. shown_row MDHD.now (mdhd_row b) };
 
-    ghost whole = { λ view b. ⟦<MdhdShown as NamedShape>⟧.whole MDHD view (
-      b.version,
-      (
-        b.flags,
-        (
-          b.creation_time,
-          (
-            b.modification_time,
-            (
-              b.timescale,
-              (
-                b.duration,
-                (b.language, tt),
-              ),
-            ),
-          ),
-        ),
-      ),
-    ) };
+    ghost whole = { λ view b. whole_row MDHD.now (mdhd_row b) };
 
-    fn show<K: FieldSink>(&self, view: View, sink: &mut K) -> Result<()> {
-        let language = &self.language;
-        let parts = parts_of!(self => version, flags, creation_time, modification_time, timescale,
-            duration, = language);
-        show_shape::<MdhdShown, _, K>(MDHD, view, parts, sink)
+    fn show<K: FieldSink>(&self, _view: View, sink: &mut K) -> Result<()> {
+        let parts = [
+            Part::U8(self.version),
+            Part::U32(self.flags),
+            Part::U64(self.creation_time),
+            Part::U64(self.modification_time),
+            Part::U32(self.timescale),
+            Part::U64(self.duration),
+            Part::Language(self.language.as_str()),
+        ];
+        put_row(MDHD, &parts, sink)
     }
 }
 
-/// Handler reference (ISO/IEC 14496-12, 8.4.3).
-pub type HdlrShown = Full<256, (Code, Last<LossyText>)>;
-
-/// The names of its fields.
-pub const HDLR: <HdlrShown as NamedShape>::Names = names_of!(
-    VERSION,
-    FLAGS,
-    "handler_type",
-    "name"
-);
+/// The fields of a handler reference (ISO/IEC 14496-12, 8.4.3).
+pub(crate) const HDLR: &[NumberName] = &[VERSION, FLAGS, field!("handler_type"), field!("name")];
 
 impl BoxFields for HdlrBox {
-    ghost shown = { λ view b. ⟦<HdlrShown as NamedShape>⟧.shown HDLR view
-        (b.version, (b.flags, (b.handler_type, (b.name, tt)))) };
+    ghost shown = { λ view b. shown_row HDLR.now (hdlr_row b) };
 
-    ghost whole = { λ view b. ⟦<HdlrShown as NamedShape>⟧.whole HDLR view
-        (b.version, (b.flags, (b.handler_type, (b.name, tt)))) };
+    ghost whole = { λ view b. whole_row HDLR.now (hdlr_row b) };
 
-    fn show<K: FieldSink>(&self, view: View, sink: &mut K) -> Result<()> {
-        let parts = parts_of!(self => version, flags, handler_type, name.as_bytes());
-        show_shape::<HdlrShown, _, K>(HDLR, view, parts, sink)
+    fn show<K: FieldSink>(&self, _view: View, sink: &mut K) -> Result<()> {
+        let parts = [
+            Part::U8(self.version),
+            Part::U32(self.flags),
+            Part::Code(self.handler_type),
+            Part::Text(self.name.as_bytes()),
+        ];
+        put_row(HDLR, &parts, sink)
     }
 }
 
@@ -196,78 +116,50 @@ fn signed_time(version: u8, media_time: u64) -> i64
     }
 }
 
-/// An entry of an edit list. The standard has a sign in both halves of the rate.
-type EditShown = (U64, MediaTime, I16, Last<I16>);
-
-/// The names of its fields.
-const EDIT: <EditShown as NamedShape>::Names = names_of!(
+/// The fields of an entry of an edit list. The standard has a sign in both halves of the rate.
+const EDIT: &[NumberName] = &[
     number!("segment_duration"),
-    "media_time",
+    field!("media_time"),
     number!("media_rate_integer"),
-    number!("media_rate_fraction")
-);
+    number!("media_rate_fraction"),
+];
 
 /// The version of the box says how many bits a media time has.
 impl BoxEntry<u8> for ElstEntry {
-    ghost shown = { λ view version x. entry_of (⟦<EditShown as NamedShape>⟧.shown EDIT view (
-      x.segment_duration,
-      (
-        signed_time version x.media_time,
-        (
-          cast_signed w16 x.media_rate,
-          (cast_signed w16 x.media_rate_fraction, tt),
-        ),
-      ),
-    )) };
+    ghost shown = { λ view version x. row_entry EDIT.now (edit_row version x) };
 
-    ghost whole = { λ view version x. whole_entry (⟦<EditShown as NamedShape>⟧.shown EDIT view (
-      x.segment_duration,
-      (
-        signed_time version x.media_time,
-        (
-          cast_signed w16 x.media_rate,
-          (cast_signed w16 x.media_rate_fraction, tt),
-        ),
-      ),
-    ))
-        (⟦<EditShown as NamedShape>⟧.whole EDIT view (
-          x.segment_duration,
-          (
-            signed_time version x.media_time,
-            (
-              cast_signed w16 x.media_rate,
-              (cast_signed w16 x.media_rate_fraction, tt),
-            ),
-          ),
-        )) };
+    ghost whole = { λ view version x. whole_row_entry EDIT.now (edit_row version x) };
 
-    fn show<K: FieldSink>(&self, view: View, version: u8, sink: &mut K) -> Result<()> {
-        let media_time = signed_time(version, self.media_time);
-        let media_rate = self.media_rate.cast_signed();
-        let fraction = self.media_rate_fraction.cast_signed();
-        let parts = parts_of!(self => segment_duration, = media_time, = media_rate, = fraction);
-        sink.begin_entry()?;
-        show_shape::<EditShown, _, K>(EDIT, view, parts, sink)?;
-        sink.end_entry()
+    fn show<K: FieldSink>(&self, _view: View, version: u8, sink: &mut K) -> Result<()> {
+        let parts = [
+            Part::U64(self.segment_duration),
+            Part::MediaTime(signed_time(version, self.media_time)),
+            Part::I16(self.media_rate.cast_signed()),
+            Part::I16(self.media_rate_fraction.cast_signed()),
+        ];
+        put_entry_row(EDIT, &parts, sink)
     }
 }
 
-/// Edit list (ISO/IEC 14496-12, 8.6.6).
-type ElstShown = Full<256, Last<EntriesIn<u8, ElstEntry>>>;
-
-/// The names of its fields.
-const ELST: <ElstShown as NamedShape>::Names = names_of!(VERSION, FLAGS, "entries");
-
+/// An edit list (ISO/IEC 14496-12, 8.6.6).
 impl BoxFields for ElstBox {
-    ghost shown = { λ view b. ⟦<ElstShown as NamedShape>⟧.shown ELST view
-        (b.version, (b.flags, ((b.version, b.entries), tt))) };
+    ghost shown = { λ view b. shown_table FULL.now (full_row b.version b.flags) (codes "entries")
+        (⟦<ElstEntry as BoxEntry<u8>>⟧.shown view b.version) view.rows b.entries };
 
-    ghost whole = { λ view b. ⟦<ElstShown as NamedShape>⟧.whole ELST view
-        (b.version, (b.flags, ((b.version, b.entries), tt))) };
+    ghost whole = { λ view b. whole_table FULL.now (full_row b.version b.flags) (codes "entries")
+        (⟦<ElstEntry as BoxEntry<u8>>⟧.shown view b.version) (⟦<ElstEntry as BoxEntry<u8>>⟧.whole view b.version)
+        view.rows b.entries };
 
     fn show<K: FieldSink>(&self, view: View, sink: &mut K) -> Result<()> {
-        let edits = (self.version, self.entries.as_slice());
-        let parts = parts_of!(self => version, flags, = edits);
-        show_shape::<ElstShown, _, K>(ELST, view, parts, sink)
+        let parts = [Part::U8(self.version), Part::U32(self.flags)];
+        put_table(
+            FULL,
+            &parts,
+            "entries",
+            &self.entries,
+            view,
+            self.version,
+            sink,
+        )
     }
 }

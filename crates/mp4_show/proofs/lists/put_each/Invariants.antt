@@ -2,7 +2,7 @@
 use Rattle.std.proofs.Common.{take}
 use Rattle.std.specs.List.{flat_map}
 use Rattle.mp4_shown.specs.Hands.{Hands}
-use Rattle.mp4_show.proofs.entries_in.put_each.Given as goal
+use Rattle.mp4_show.proofs.lists.put_each.Given as goal
 
 abbrev pub invariant-loop-entry : goal.invariant-loop-entry
 invariant-loop-entry g l =

@@ -1,0 +1,15 @@
+use Rattle.std.proofs.Common.{codes}
+use Rattle.mp4_show.proofs.Handed.{hands_more}
+use Rattle.mp4_show.specs.Lists.{listed_if}
+use Rattle.mp4_show.specs.Run.{flags_item, offset_item}
+use Rattle.mp4_show.specs.declared.flag_names.TheConstants.{SAMPLE}
+use Rattle.mp4_show.proofs.fields.fragments.put_last_columns.Goals as goal
+
+pub returns : goal.returns
+returns g c =
+    hands_more g.K.FieldSink.trace g.K.FieldSink.after c.put_list_if-2.result
+    (listed_if (codes "sample_flags") (flags_item SAMPLE.now) c.args.view.rows c.args.b.now.sample_flags)
+    (listed_if (codes "sample_composition_time_offset") (offset_item c.args.b.now.version) c.args.view.rows
+    c.args.b.now.sample_cts)
+    c.args.sink.now c.put_list_if.new.sink c.put_list_if-2.new.sink c.in_ok-put_list_if.ensures
+    c.put_list_if-2.ensures
