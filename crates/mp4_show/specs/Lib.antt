@@ -13,3 +13,4 @@ pub mod Metadata
 pub mod Fronts
 pub mod FrontRows
 pub mod SoundFront
+pub mod Texts

@@ -1,11 +1,12 @@
 //! Characters that are shown by their numbers, since a terminal may obey them or show them elsewhere.
 
-ghost use Rattle.std.specs.Prelude.{◌≡◌, ◌++◌, ◌<◌, OnOk, IfOk, string_bytes};
+ghost use Rattle.std.specs.Prelude.{◌≡◌, ◌++◌, ◌<◌, OnOk, IfOk, flat_map, string_bytes};
 ghost use Rattle.std.specs.List.{list_any};
 ghost use Rattle.std.specs.Str.{chars};
 ghost use Rattle.std.specs.Char.Escape.{hex_digit_at};
 ghost use Rattle.mp4_show.specs.Escaped.{is_escaped, leading_digit, short_digits, four_digits, number_in};
 ghost use Rattle.mp4_show.specs.Escaped.{shown_char, escaped, text_escaped, json_escaped};
+ghost use Rattle.mp4_show.specs.Texts.{byte_digits};
 
 use mp4_shown::Result;
 use std::alloc::Global;
@@ -150,15 +151,13 @@ pub fn push_escaped(text: &str, out: &mut String) -> Result<()>
     push_text_in(Form::Text, text, out)
 }
 
-/// Appends `bytes` as `push_escaped` does where they are UTF-8, and each other byte as `\xe9`.
-pub fn push_escaped_bytes(bytes: &[u8], out: &mut String) -> Result<()> {
-    for chunk in bytes.utf8_chunks() {
-        push_escaped(chunk.valid(), out)?;
-        for byte in chunk.invalid() {
-            out.push_str("\\x")?;
-            out.push(hex_digit(0x10, u32::from(*byte)))?;
-            out.push(hex_digit(1, u32::from(*byte)))?;
-        }
+/// Appends the two hexadecimal digits of each byte.
+pub(crate) fn push_digits(bytes: &[u8], out: &mut String) -> Result<()>
+    ensures text { OnOk result (string_bytes out.new ≡ string_bytes out.old ++ flat_map byte_digits bytes.now) }
+{
+    for byte in bytes {
+        out.push(hex_digit(0x10, u32::from(*byte)))?;
+        out.push(hex_digit(1, u32::from(*byte)))?;
     }
     Ok(())
 }

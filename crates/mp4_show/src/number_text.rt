@@ -1,10 +1,13 @@
 //! Numbers, dates and bytes as text.
 
-ghost use Rattle.std.specs.Prelude.{◌≡◌, ◌++◌, OnOk, decimal, string_bytes};
+ghost use Rattle.std.specs.Prelude.{◌≡◌, ◌++◌, OnOk, decimal, string_bytes, take};
+ghost use Rattle.std.specs.Fmt.{sign_text, signed_decimal};
+ghost use Rattle.mp4_show.specs.Texts.{fixed_shown, signed_fixed_shown, front_shown, bytes_shown};
 
-use crate::escape::{Form, push_shown};
+use crate::escape::{Form, push_digits, push_shown};
 use jiff::Timestamp;
 use mp4_shown::Result;
+use mp4_shown_json::{power, push_fraction};
 use std::alloc::Global;
 
 /// The seconds from the start of 1904 to the start of 1970.
@@ -23,38 +26,46 @@ pub fn push_number(number: u64, out: &mut String) -> Result<()>
 }
 
 /// Appends a number that may be negative.
-pub(crate) fn push_signed(number: i64, out: &mut String) -> Result<()> {
+pub(crate) fn push_signed(number: i64, out: &mut String) -> Result<()>
+    ensures text { OnOk result (string_bytes out.new ≡ string_bytes out.old ++ signed_decimal number) }
+{
     let mut buffer = itoa::Buffer::new();
-    out.push_str(buffer.format(number))
+    out.push_str(buffer.format(number))?;
+    Ok(())
+}
+
+/// Appends the sign of a number, if it is negative.
+fn push_sign(negative: bool, out: &mut String) -> Result<()>
+    ensures text { OnOk result (string_bytes out.new ≡ string_bytes out.old ++ sign_text negative) }
+{
+    if negative {
+        out.push('-')?;
+    }
+    Ok(())
 }
 
 /// Appends a fixed-point number that may be negative, in the form of `push_fixed`.
-pub(crate) fn push_signed_fixed(number: i64, bits: u32, out: &mut String) -> Result<()> {
-    if number < 0 {
-        out.push('-')?;
-    }
+pub(crate) fn push_signed_fixed(number: i64, bits: u32, out: &mut String) -> Result<()>
+    ensures text { OnOk result (string_bytes out.new ≡ string_bytes out.old ++ signed_fixed_shown number bits) }
+{
+    push_sign(number < 0, out)?;
     push_fixed(number.unsigned_abs(), bits, out)
 }
 
 /// Appends a fixed-point number as an exact decimal: `number` has this many bits after the point, at most 30.
-pub(crate) fn push_fixed(number: u64, bits: u32, out: &mut String) -> Result<()> {
+#[tactic(auto, using(crate::proofs::Fixed::rest_below))]
+pub(crate) fn push_fixed(number: u64, bits: u32, out: &mut String) -> Result<()>
+    ensures text { OnOk result (string_bytes out.new ≡ string_bytes out.old ++ fixed_shown number bits) }
+{
     let bits = bits.min(30);
-    let one = 1u64 << bits;
+    let one = power(bits);
     push_number(number / one, out)?;
-    let mut part = number % one;
-    if part == 0 {
+    let rest = number % one;
+    if rest == 0 {
         return Ok(());
     }
     out.push('.')?;
-    for _ in 0..bits {
-        if part == 0 {
-            return Ok(());
-        }
-        let next = part.saturating_mul(10);
-        push_number(next / one, out)?;
-        part = next % one;
-    }
-    Ok(())
+    push_fraction(rest, bits, out)
 }
 
 /// Appends a number with 64 bits of IEEE 754 as a decimal that reads back as the same number.
@@ -91,18 +102,33 @@ pub(crate) fn push_date(alloc: Global, seconds: u64, out: &mut String) -> Result
     push_number(seconds, out)
 }
 
-/// Appends bytes in hexadecimal digits, the first of them if there are many, and how many there are.
-pub(crate) fn push_bytes(alloc: Global, bytes: &[u8], out: &mut String) -> Result<()> {
-    let shown = &bytes[..bytes.len().min(MOST_BYTES)];
-    if !shown.is_empty() {
-        let text = hex::encode(alloc, shown)?;
-        out.push_str(text.as_str())?;
-        out.push_str(if shown.len() < bytes.len() {
-            ".. "
-        } else {
-            " "
-        })?;
+/// Returns the bytes that are shown of `bytes`.
+fn first(bytes: &[u8]) -> &[u8]
+    ensures { result.now ≡ take 24 bytes.now }
+{
+    if bytes.len() > MOST_BYTES {
+        &bytes[..MOST_BYTES]
+    } else {
+        bytes
     }
+}
+
+/// Appends the hexadecimal digits of `bytes`, if there are some, and dots if `more` bytes follow.
+fn push_first(bytes: &[u8], more: bool, out: &mut String) -> Result<()>
+    ensures text { OnOk result (string_bytes out.new ≡ string_bytes out.old ++ front_shown more bytes.now) }
+{
+    if bytes.is_empty() {
+        return Ok(());
+    }
+    push_digits(bytes, out)?;
+    out.push_str(if more { ".. " } else { " " })
+}
+
+/// Appends bytes in hexadecimal digits, the first of them if there are many, and how many there are.
+pub(crate) fn push_bytes(bytes: &[u8], out: &mut String) -> Result<()>
+    ensures text { OnOk result (string_bytes out.new ≡ string_bytes out.old ++ bytes_shown bytes.now) }
+{
+    push_first(first(bytes), bytes.len() > MOST_BYTES, out)?;
     out.push('(')?;
     push_number(bytes.len() as u64, out)?;
     out.push_str(if bytes.len() == 1 {

@@ -1,6 +1,8 @@
 //! The text of a box: its line, and a line for each entry of its lists.
 
-ghost use Rattle.std.specs.Prelude.{false};
+ghost use Rattle.std.specs.Prelude.{◌≡◌, ◌∷◌, [], ◌++◌, false, length, OnOk, string_bytes};
+ghost use Rattle.std.specs.Str.{chars};
+ghost use Rattle.mp4_show.specs.Texts.{colored};
 
 use crate::look::Look;
 use crate::number_text::push_number;
@@ -56,7 +58,10 @@ pub struct TextSink {
 }
 
 /// Appends a text in a colour, if colours are wanted. The colour is a number of ECMA-48, "select graphic rendition".
-pub fn push_colored(look: Look, text: &str, color: &str, out: &mut String) -> Result<()> {
+pub fn push_colored(look: Look, text: &str, color: &str, out: &mut String) -> Result<()>
+    ensures text { OnOk result (string_bytes out.new
+        ≡ string_bytes out.old ++ colored look.color color.now text.now) }
+{
     if !look.color {
         return out.push_str(text);
     }
@@ -67,14 +72,19 @@ pub fn push_colored(look: Look, text: &str, color: &str, out: &mut String) -> Re
     out.push_str("\u{1B}[0m")
 }
 
-/// How many columns a text takes: one a character.
-pub fn columns(text: &str) -> usize {
+/// Returns how many columns a text takes: one a character.
+pub fn columns(text: &str) -> usize
+    ensures { result ≡ length (chars text.now) }
+{
     text.chars().count()
 }
 
 impl TextSink {
-    /// A sink of no text.
-    pub fn new(alloc: Global, look: Look) -> TextSink {
+    /// Returns a sink of no text.
+    pub fn new(alloc: Global, look: Look) -> TextSink
+        ensures text { string_bytes result.text ≡ [] }
+        ensures look { result.look ≡ look }
+    {
         TextSink {
             alloc,
             text: String::new(alloc),
@@ -88,7 +98,10 @@ impl TextSink {
     }
 
     /// Forgets all text. What follows is put into the line of a box at this depth, of which so many columns are taken.
-    pub fn begin(&mut self, depth: u64, column: usize) {
+    pub fn begin(&mut self, depth: u64, column: usize)
+        ensures text { string_bytes self.new.text ≡ [] }
+        ensures look { self.new.look ≡ self.old.look }
+    {
         self.text.clear();
         self.indent = 2 * depth.min(64) as usize;
         self.column = column;
@@ -97,17 +110,24 @@ impl TextSink {
     }
 
     /// Ends the last line.
-    pub fn end(&mut self) -> Result<()> {
+    pub fn end(&mut self) -> Result<()>
+        ensures text { OnOk result (string_bytes self.new.text ≡ string_bytes self.old.text ++ (10 ∷ [])) }
+        ensures look { self.new.look ≡ self.old.look }
+    {
         self.text.push('\n')
     }
 
-    /// The text.
-    pub fn text(&self) -> &str {
+    /// Returns the text.
+    pub fn text(&self) -> &str
+        ensures { result.now ≡ string_bytes self.now.text }
+    {
         self.text.as_str()
     }
 
-    /// How it looks.
-    pub fn look(&self) -> Look {
+    /// Returns how the text looks.
+    pub fn look(&self) -> Look
+        ensures { result ≡ self.now.look }
+    {
         self.look
     }
 

@@ -89,15 +89,13 @@ pub(crate) fn push_value(alloc: Global, value: Value<'_>, out: &mut String) -> R
         Value::Fixed(number, bits) => push_fixed(number, bits, out),
         Value::SignedFixed(number, bits) => push_signed_fixed(number, bits, out),
         Value::Float(number, _) => push_float(alloc, number, out),
-        Value::Hex(number, count) => {
-            push_bytes(alloc, &number.to_be_bytes()[8 - count.min(8)..], out)
-        }
+        Value::Hex(number, count) => push_bytes(&number.to_be_bytes()[8 - count.min(8)..], out),
         Value::MediaTime(-1) => out.push_str("empty"),
         Value::MediaTime(time) => push_signed(time, out),
         Value::Code(code) => push_code(code, out),
         Value::Codes(codes) => push_codes(codes, out),
         Value::Text(text) => push_text(text, out),
-        Value::Bytes(bytes) => push_bytes(alloc, bytes, out),
+        Value::Bytes(bytes) => push_bytes(bytes, out),
         Value::Numbers(numbers) => push_numbers(numbers, out),
         Value::Matrix(matrix) => push_matrix(matrix, out),
     }

@@ -16,7 +16,7 @@ fn push_digit(digit: u64, out: &mut String) -> Result<()>
 
 /// Returns 2^`bits`.
 #[tactic(auto, using(crate::proofs::Fraction::power_small, crate::proofs::Fraction::power_positive))]
-fn power(bits: u32) -> u64
+pub fn power(bits: u32) -> u64
     requires { bits ≤ 30 }
     ensures value { result ≡ 2 ^ bits }
     ensures small { result ≤ 2 ^ 30 }
@@ -48,7 +48,7 @@ fn next_part(part: u64, one: u64) -> u64
 }
 
 /// Appends the digits of `rest` / 2^`bits` after the point.
-fn push_fraction(rest: u64, bits: u32, out: &mut String) -> Result<()>
+pub fn push_fraction(rest: u64, bits: u32, out: &mut String) -> Result<()>
     requires short { bits ≤ 30 }
     requires below { rest < 2 ^ bits }
     ensures text { OnOk result (string_bytes out.new

@@ -9,4 +9,5 @@ mod json_sink;
 
 pub use code::push_latin;
 pub use fields_json::json_of;
+pub use fixed::{power, push_fraction};
 pub use json_sink::JsonSink;
