@@ -1,0 +1,2 @@
+pub mod BytesEscaped
+pub mod WordsTaken

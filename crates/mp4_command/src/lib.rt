@@ -2,10 +2,11 @@
 //! and files whose errors of reading are kept for a message.
 #![tactic(auto)]
 
+mod escape;
 mod mark;
 mod source;
 mod words;
 
 pub use mark::unreadable;
 pub use source::Kept;
-pub use words::{MISUSE, NOT_UTF_8, escaped, print_error, words_of};
+pub use words::{CommandLine, MISUSE, NOT_UTF_8, escaped, print_error, words_of};

@@ -1,17 +1,20 @@
 //! The words of the command line, and what is printed about them. A word that is not UTF-8 is escaped and marked, since
 //! `clap` takes only text.
 
-ghost use Rattle.std.specs.Prelude.{◌≡◌, ◌++◌, ◌∷◌, [], ℕ, List, Err, false, IfOk, IsUtf8, string_bytes};
+ghost use Rattle.std.specs.Prelude.{◌≡◌, ◌++◌, ◌∷◌, [], ℕ, List, Option, Err, None, false, IfOk, IfSome};
+ghost use Rattle.std.specs.Prelude.{map, option_map, slice_get, string_bytes, vec_items};
 ghost use Rattle.clap.specs.Values.{kind_of};
 ghost use Rattle.mp4_command.specs.Exit.{status_of};
+ghost use Rattle.mp4_command.specs.Words.{bytes_escaped, word_text};
 ghost use Rattle.mp4_io.specs.Ends.{is_read};
 ghost use Rattle.mp4_show.specs.Escaped.{text_escaped};
 
+use crate::escape::push_escaped_bytes;
 use crate::mark::MARK;
 use clap::Error;
 use clap::error::ErrorKind;
 use mp4_io::{Failure, is_closed_pipe};
-use mp4_show::{push_escaped, push_escaped_bytes};
+use mp4_show::push_escaped;
 use std::alloc::{AllocError, Global};
 use std::env::{Env, FillError};
 
@@ -22,26 +25,39 @@ pub const NOT_UTF_8: &str = "this name is not UTF-8, and only names that are can
 /// The number of bytes that a word has space for at first.
 const CAPACITY: usize = 256;
 
-/// Returns the bytes of word `number` of the command line, or `None` if there are fewer.
-fn bytes_of(rt: &HostRuntime, number: usize) -> Result<Option<Vec<u8>>, AllocError> {
-    let mut capacity = CAPACITY;
-    for _ in 0..usize::BITS {
-        let mut bytes = vec![in rt.alloc(); 0; capacity]?;
-        match rt.arg(number, bytes.as_mut_slice()) {
-            Ok(length) => {
-                bytes.truncate(length);
-                return Ok(Some(bytes));
+/// A command line.
+pub trait CommandLine {
+    /// The bytes of all words, if they are known. The first word is the name of the program.
+    ghost all: { Self → Option (List (List ℕ)) } = { λ _. None };
+
+    /// Returns the bytes of word `number`, or `None` if there are fewer words.
+    fn word(&self, alloc: Global, number: usize) -> Result<Option<Vec<u8>>, AllocError>
+        ensures { IfSome (all self.now)
+            (λ words. IfOk result (λ word. option_map vec_items word ≡ slice_get words number)) };
+}
+
+/// The command line of the program. No clause says which words it has.
+impl CommandLine for HostRuntime {
+    fn word(&self, alloc: Global, number: usize) -> Result<Option<Vec<u8>>, AllocError> {
+        let mut capacity = CAPACITY;
+        for _ in 0..usize::BITS {
+            let mut bytes = vec![in alloc; 0; capacity]?;
+            match self.arg(number, bytes.as_mut_slice()) {
+                Ok(length) => {
+                    bytes.truncate(length);
+                    return Ok(Some(bytes));
+                }
+                Err(FillError::NotPresent) => return Ok(None),
+                Err(FillError::TooLong) => capacity = capacity.saturating_add(capacity),
             }
-            Err(FillError::NotPresent) => return Ok(None),
-            Err(FillError::TooLong) => capacity = capacity.saturating_add(capacity),
         }
+        Err(AllocError)
     }
-    Err(AllocError)
 }
 
 /// Returns the escaped form of a word that is not UTF-8, with `MARK` at its end.
 fn marked(alloc: Global, bytes: &[u8]) -> Result<String, AllocError>
-    ensures { IfOk result (λ text. (front : List ℕ) × (string_bytes text ≡ front ++ 0 ∷ [])) }
+    ensures { IfOk result (λ text. string_bytes text ≡ bytes_escaped bytes.now ++ (0 ∷ [])) }
 {
     let mut text = String::new(alloc);
     push_escaped_bytes(bytes, &mut text)?;
@@ -51,9 +67,7 @@ fn marked(alloc: Global, bytes: &[u8]) -> Result<String, AllocError>
 
 /// Returns the text of a word. A word that is not UTF-8 is escaped, and ends with `MARK`.
 fn text_of(alloc: Global, bytes: &[u8]) -> Result<String, AllocError>
-    ensures utf8 { IsUtf8 bytes.now → IfOk result (λ text. string_bytes text ≡ bytes.now) }
-    ensures marked { ¬ (IsUtf8 bytes.now)
-        → IfOk result (λ text. (front : List ℕ) × (string_bytes text ≡ front ++ 0 ∷ [])) }
+    ensures { IfOk result (λ text. string_bytes text ≡ word_text bytes.now) }
 {
     match std::str::from_utf8(bytes) {
         Ok(text) => String::from_str(alloc, text),
@@ -61,16 +75,19 @@ fn text_of(alloc: Global, bytes: &[u8]) -> Result<String, AllocError>
     }
 }
 
-/// Returns the words of the command line. The first is the name of the program.
-pub fn words_of(rt: &HostRuntime) -> Result<Vec<String>, AllocError> {
-    let mut words = Vec::new(rt.alloc());
+/// Returns the words of a command line as text.
+pub fn words_of<C: CommandLine>(alloc: Global, line: &C) -> Result<Vec<String>, AllocError>
+    ensures { IfSome (C.all line.now)
+        (λ words. IfOk result (λ texts. map string_bytes texts.items ≡ map word_text words)) }
+{
+    let mut texts = Vec::new(alloc);
     for number in 0..usize::MAX {
-        let Some(bytes) = bytes_of(rt, number)? else {
-            break;
+        let Some(bytes) = line.word(alloc, number)? else {
+            return Ok(texts);
         };
-        words.push(text_of(rt.alloc(), &bytes)?)?;
+        texts.push(text_of(alloc, &bytes)?)?;
     }
-    Ok(words)
+    Err(AllocError)
 }
 
 /// Returns a name with its control characters escaped.

@@ -287,7 +287,7 @@ fn is_fast_start(words: &[String]) -> bool {
 
 /// Carries out the command line, and returns the exit status.
 fn run(rt: &HostRuntime) -> Result<u8, Failure> {
-    let words = words_of(rt)?;
+    let words = words_of(rt.alloc(), rt)?;
     if is_fast_start(words.as_slice()) {
         let _ = eprintln!(rt;
             "mp4inspect: faststart is a command of mp4remux: mp4remux faststart IN OUT"

@@ -85,7 +85,7 @@ fn request_of(alloc: Global, words: &[String]) -> Result<Request, Error> {
 /// Returns the request of the program's command line. If that names no file, prints a message to standard error, or the
 /// help or the version, and returns the exit status.
 pub fn requested(rt: &HostRuntime) -> Result<Result<Request, u8>, Failure> {
-    let words = words_of(rt)?;
+    let words = words_of(rt.alloc(), rt)?;
     match request_of(rt.alloc(), words.as_slice()) {
         Ok(request) => Ok(Ok(request)),
         Err(error) => Ok(Err(print_error(rt, &error)?)),

@@ -5,8 +5,9 @@ use Rattle.std.proofs.lemmas.List.{nil_from_length}
 use Rattle.std.proofs.lemmas.Str.{chars-nil, chars_past_char, encodes-chars}
 use Rattle.std.specs.List.{list_any}
 use Rattle.std.specs.Str.{chars}
-use Rattle.mp4_show.specs.Escaped.{is_escaped, number_in, shown_char, escaped}
+use Rattle.mp4_show.specs.Escaped.{is_escaped, number_in, shown_char, escaped, text_escaped}
 use Rattle.mp4_show.specs.declared.escape.Form.{Form}
+use Rattle.mp4_show.specs.declared.escape.Form.TheVariants as forms
 
 pub escaped_empty : (form : Form) (text : List ℕ) → length text ≡ 0 → escaped form text ≡ []
 unfolding escaped
@@ -16,6 +17,9 @@ pub escaped_step : (form : Form) (text rest : List ℕ) (c : ℕ) → IsUtf8 tex
     → escaped form text ≡ shown_char form c ++ escaped form rest
 unfolding escaped
 escaped_step form text rest c utf8 parts = rw (chars_past_char text rest c utf8 parts)
+
+pub text_escaped_empty : (text : List ℕ) → length text ≡ 0 → text_escaped text ≡ []
+text_escaped_empty = escaped_empty forms.Text
 
 -- whether one of the characters is shown by its number
 pub any_empty : (text : List ℕ) → length text ≡ 0 → list_any is_escaped (chars text) ≡ false
