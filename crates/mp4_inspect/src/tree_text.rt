@@ -109,7 +109,9 @@ fn put_track(alloc: Global, track: &TrackInfo, sink: &mut TextSink) -> Result<()
 /// Sends `word` and the name of a box for people, in round brackets, to `sink`.
 fn put_called(alloc: Global, word: &str, found: &TreeBox, sink: &mut TextSink) -> Result<()> {
     let mut text = String::from_str(alloc, word)?;
-    if let Some(name) = found.code.and_then(name_of) {
+    if let Some(code) = found.code
+        && let Some(name) = name_of(code)
+    {
         text.push_str(if word.is_empty() { "(" } else { " (" })?;
         text.push_str(name)?;
         text.push(')')?;

@@ -1,4 +1,6 @@
 pub mod Frames
+mod NamesFound
+mod PathTexts
 pub mod Places
 pub mod Searches
 pub mod Steps

@@ -8,3 +8,5 @@ pub mod Tops
 pub mod FileBoxes
 pub mod Walk
 pub mod Peek
+pub mod PathText
+pub mod Names

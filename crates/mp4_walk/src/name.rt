@@ -1,5 +1,9 @@
 //! Names of boxes for people to read.
 
+ghost use Rattle.std.specs.Prelude.{◌≡◌};
+ghost use Rattle.std.specs.Option.{option_map};
+ghost use Rattle.mp4_walk.specs.Names.{name_in};
+
 use mp4_frame::FourCC;
 
 /// Codes and the names of boxes with these codes.
@@ -183,11 +187,9 @@ static NAMES: [([u8; 4], &str); 166] = [
 ];
 
 /// Returns the name of boxes with this `code` in a few plain words, or `None` for a code that is not in the table.
-pub fn name_of(code: FourCC) -> Option<&'static str> {
-    for (known, name) in &NAMES {
-        if *known == code.value {
-            return Some(name);
-        }
-    }
-    None
+pub fn name_of(code: FourCC) -> Option<&'static str>
+    ensures { option_map (λ name. name.now) result ≡ name_in NAMES code.value }
+{
+    let row = NAMES.iter().find(|row| row.0 == code.value)?;
+    Some(row.1)
 }
