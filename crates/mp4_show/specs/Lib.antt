@@ -14,3 +14,4 @@ pub mod Fronts
 pub mod FrontRows
 pub mod SoundFront
 pub mod Texts
+pub mod Lines

@@ -1,8 +1,9 @@
 //! The text of a box: its line, and a line for each entry of its lists.
 
-ghost use Rattle.std.specs.Prelude.{◌≡◌, ◌∷◌, [], ◌++◌, false, length, OnOk, string_bytes};
+ghost use Rattle.std.specs.Prelude.{◌≡◌, ◌∷◌, [], ◌++◌, ◌*◌, false, length, min, replicate, OnOk, string_bytes};
 ghost use Rattle.std.specs.Str.{chars};
 ghost use Rattle.mp4_show.specs.Texts.{colored};
+ghost use Rattle.mp4_show.specs.Lines.{fit, new_line, between, before_words};
 
 use crate::look::Look;
 use crate::number_text::push_number;
@@ -79,6 +80,16 @@ pub fn columns(text: &str) -> usize
     text.chars().count()
 }
 
+/// Appends `count` spaces.
+fn push_spaces(count: usize, out: &mut String) -> Result<()>
+    ensures text { OnOk result (string_bytes out.new ≡ string_bytes out.old ++ replicate count 32) }
+{
+    for _ in 0..count {
+        out.push(' ')?;
+    }
+    Ok(())
+}
+
 impl TextSink {
     /// Returns a sink of no text.
     pub fn new(alloc: Global, look: Look) -> TextSink
@@ -101,6 +112,9 @@ impl TextSink {
     pub fn begin(&mut self, depth: u64, column: usize)
         ensures text { string_bytes self.new.text ≡ [] }
         ensures look { self.new.look ≡ self.old.look }
+        ensures column { self.new.column ≡ column }
+        ensures indent { self.new.indent ≡ 2 * min depth 64 }
+        ensures lists { self.new.lists.items ≡ [] }
     {
         self.text.clear();
         self.indent = 2 * depth.min(64) as usize;
@@ -131,52 +145,74 @@ impl TextSink {
         self.look
     }
 
-    /// Appends spaces at the front of a line.
-    fn spaces(&mut self, count: usize) -> Result<()> {
-        for _ in 0..count {
-            self.text.push(' ')?;
-        }
+    /// Ends the line, and begins one that is so much further in than the box's.
+    fn next_line(&mut self, further: usize) -> Result<()>
+        ensures text { OnOk result (string_bytes self.new.text
+            ≡ string_bytes self.old.text ++ new_line self.old.indent further) }
+        ensures look { self.new.look ≡ self.old.look }
+    {
+        let count = self.indent.saturating_add(further);
+        self.text.push('\n')?;
+        push_spaces(count, &mut self.text)?;
         self.column = count;
         Ok(())
     }
 
-    /// Ends the line, and begins one that is so much further in than the box's.
-    fn next_line(&mut self, further: usize) -> Result<()> {
-        self.text.push('\n')?;
-        self.spaces(self.indent.saturating_add(further))
-    }
-
-    /// How much further in than the box's line those of the entries are, of the last list that is begun.
-    fn further(&self) -> usize {
+    /// Returns how much further in than the box's line those of the entries are, of the last list that is begun.
+    fn further(&self) -> usize
+        ensures { result ≡ fit (length self.now.lists.items * 4) }
+    {
         self.lists.len().saturating_mul(4)
     }
 
     /// Appends a text that no line break comes before.
-    fn write(&mut self, text: &str) -> Result<()> {
+    fn write(&mut self, text: &str) -> Result<()>
+        ensures text { OnOk result (string_bytes self.new.text ≡ string_bytes self.old.text ++ text.now) }
+        ensures look { self.new.look ≡ self.old.look }
+        ensures indent { self.new.indent ≡ self.old.indent }
+        ensures lists { self.new.lists ≡ self.old.lists }
+    {
         self.text.push_str(text)?;
         self.column = self.column.saturating_add(columns(text));
         Ok(())
     }
 
     /// Appends a text in a colour, if colours are wanted.
-    fn colored(&mut self, text: &str, color: &str) -> Result<()> {
+    fn colored(&mut self, text: &str, color: &str) -> Result<()>
+        ensures text { OnOk result (string_bytes self.new.text
+            ≡ string_bytes self.old.text ++ colored self.old.look.color color.now text.now) }
+        ensures look { self.new.look ≡ self.old.look }
+    {
         self.column = self.column.saturating_add(columns(text));
         push_colored(self.look, text, color, &mut self.text)
     }
 
-    /// Appends a piece after what is there, in a line of its own if this one has no room.
-    fn put(&mut self, text: &str) -> Result<()> {
+    /// Appends what comes before a piece of `size` columns. Begins a line if this one has no room for the piece.
+    fn separate(&mut self, size: usize) -> Result<()>
+        ensures text { OnOk result (string_bytes self.new.text
+            ≡ string_bytes self.old.text ++ between self.old.before self.old size) }
+        ensures look { self.new.look ≡ self.old.look }
+    {
         let room = self.look.width.saturating_sub(self.column);
         match self.before {
-            Before::Line => self.next_line(self.further().saturating_add(2))?,
-            Before::Space if room > columns(text) => self.write(" ")?,
-            Before::Space => self.next_line(self.further().max(4))?,
-            Before::Comma if room > columns(text).saturating_add(2) => self.write(", ")?,
+            Before::Line => self.next_line(self.further().saturating_add(2)),
+            Before::Space if room > size => self.write(" "),
+            Before::Space => self.next_line(self.further().max(4)),
+            Before::Comma if room > size.saturating_add(2) => self.write(", "),
             Before::Comma => {
                 self.write(",")?;
-                self.next_line(self.further().max(4))?;
+                self.next_line(self.further().max(4))
             }
         }
+    }
+
+    /// Appends a piece after what is there, on a new line if this one has no room.
+    fn put(&mut self, text: &str) -> Result<()>
+        ensures text { OnOk result (string_bytes self.new.text
+            ≡ string_bytes self.old.text ++ (between self.old.before self.old (length (chars text.now)) ++ text.now)) }
+        ensures look { self.new.look ≡ self.old.look }
+    {
+        self.separate(columns(text))?;
         self.before = Before::Comma;
         self.write(text)
     }
@@ -191,13 +227,22 @@ impl TextSink {
     }
 
     /// Appends some words in a colour, after a space.
-    pub fn words_colored(&mut self, text: &str, color: &str) -> Result<()> {
+    pub fn words_colored(&mut self, text: &str, color: &str) -> Result<()>
+        ensures text { OnOk result (string_bytes self.new.text
+            ≡ string_bytes self.old.text
+            ++ (before_words self.old [] ++ colored self.old.look.color color.now text.now)) }
+        ensures look { self.new.look ≡ self.old.look }
+    {
         self.words("")?;
         self.colored(text, color)
     }
 
     /// Appends some words, after a space.
-    pub fn words(&mut self, text: &str) -> Result<()> {
+    pub fn words(&mut self, text: &str) -> Result<()>
+        ensures text { OnOk result (string_bytes self.new.text
+            ≡ string_bytes self.old.text ++ (before_words self.old text.now ++ text.now)) }
+        ensures look { self.new.look ≡ self.old.look }
+    {
         self.before = Before::Space;
         self.put(text)?;
         self.before = Before::Space;

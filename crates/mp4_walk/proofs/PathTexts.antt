@@ -17,7 +17,7 @@ use Rattle.mp4_walk.specs.declared.path.PathError.TheVariants as faults
 use Rattle.mp4_walk.specs.PathText.{texts_of, ArePathParts, IsFault, IsFirstFault}
 use Rattle.mp4_walk.specs.PathText.{AreBytes, HasCode, IsNumber, HasNoIndex, IsPart}
 
--- the first character of a text is one alone
+-- a text has one first character, and one rest
 same_first : (text r s : List ℕ) (c d : ℕ) → IsUtf8 text → text ≡ encode_utf8 c ++ r → text ≡ encode_utf8 d ++ s
     → (c ≡ d) × (r ≡ s)
 same_first text r s c d utf8 p q =
