@@ -291,7 +291,7 @@ class Files(Python):
              (0, 0, 6, 48000.0)),
             (b"soun", made.sound(b"ec-3", 0, 2, 16, 48000 << 16, b"", box(b"dec3", be(2, 640 << 3) + b"\x20\x0f\0")),
              "ec-3", (0, 0, 6, 48000.0)),
-            (b"soun", made.sound(b"Opus", 0, 6, 16, 48000 << 16, b"", b""), "opus", (0, 0, 6, 48000.0)),
+            (b"soun", made.sound(b"Opus", 0, 6, 16, 48000 << 16, b"", b""), "Opus", (0, 0, 6, 48000.0)),
             (b"soun", made.sound(b"mp4a", 0, 2, 16, 44100 << 16, b"", full(b"esds", 0, 0, mp4a)), "mp4a.40.2",
              (0, 0, 2, 44100.0)),
             (b"soun", made.sound(b"lpcm", 2, 3, 16, 0x10000, be(4, 72) + bytes.fromhex("40e7700000000000")

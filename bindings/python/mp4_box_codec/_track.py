@@ -16,8 +16,6 @@ if typing.TYPE_CHECKING:
 A = TypeVar("A")
 _KINDS = {"vide": "video", "soun": "audio", "subt": "text", "text": "text", "sbtl": "text", "clcp": "text",
           "meta": "metadata", "hint": "hint"}
-# Codec strings that differ from the code of the sample entry.
-_CODECS = {"Opus": "opus", "fLaC": "flac"}
 # The channels of each mode of AC-3, without the one of low frequencies (ETSI TS 102 366, 4.4.2.3).
 _AC3_CHANNELS = (2, 1, 2, 3, 3, 4, 4, 5)
 
@@ -230,11 +228,10 @@ def _channels(code: str, entry: "Box") -> int:
 
 def _codec(code: str, entry: "Box") -> str:
     """Returns the codec string of a sample entry, or the code if its configuration is missing or can't be read."""
-    plain: str = _CODECS.get(code, code)
     try:
-        return _profile(code, entry) or plain
+        return _profile(code, entry) or code
     except Mp4Error:
-        return plain
+        return code
 
 
 def _profile(code: str, entry: "Box") -> Optional[str]:
