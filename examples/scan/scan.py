@@ -5,11 +5,12 @@ durations, and its faults.
     scan.py FOLDER [--scheduler ADDRESS] [--out faults.jsonl]
 
 A file or a worker that fails doesn't stop the scan. The files of a worker that ended are tried again on another one. If
-a file ends several workers, its line says so. The status is 1 if a file has a fault or a failure, and 2 if the scan
-could not be finished."""
+that one ends too, and so on, they are tried last, one at a time. A file that still ends its worker has a line that says
+so. The status is 1 if a file has a fault or a failure, and 2 if the scan could not be finished."""
 
 import argparse
 import asyncio
+import collections
 import contextlib
 import itertools
 import os
@@ -86,6 +87,8 @@ class Scan:
     def __init__(self, client, batches):
         self.client, self.batches = client, batches
         self.running, self.files = as_completed(), {}
+        # The files of batches that failed, and whether they run now, one at a time.
+        self.suspects, self.is_last = collections.deque(), False
 
     def submit(self, batch):
         future = self.client.submit(audit.audit_all, batch, pure=False)
@@ -93,10 +96,14 @@ class Scan:
         self.running.add(future)
 
     def fill(self):
-        """Submits batches until enough of them wait. Workers may join and leave meanwhile."""
+        """Submits batches until enough of them wait. Workers may join and leave meanwhile. When nothing runs or waits
+        any more, submits a suspect."""
         missing = WAITING * max(1, sum(self.client.nthreads().values())) - len(self.files)
         for batch in itertools.islice(self.batches, max(0, missing)):
             self.submit(batch)
+        if self.suspects and not self.files:
+            self.is_last = True
+            self.submit([self.suspects.popleft()])
 
     def results(self):
         """Yields what is found in each file, once for each."""
@@ -108,13 +115,13 @@ class Scan:
             except asyncio.CancelledError:
                 raise OSError("the scheduler is lost") from None
             except Exception as why:
-                # The batch ended several workers, or the audit has an error. Try its files one by one, so that only the
-                # file that does this is lost.
-                if len(batch) == 1:
+                # Several workers ended that had the batch, or the audit has an error. Dask counts an end for all that
+                # waits for a worker too, so the cause may be a file of another batch. A file that fails while nothing
+                # else runs is the cause itself.
+                if self.is_last:
                     found = [{"file": batch[0], "failure": f"{type(why).__name__}: {why}"}]
                 else:
-                    for file in batch:
-                        self.submit([file])
+                    self.suspects.extend(batch)
             yield from found
             self.fill()
 
