@@ -403,7 +403,7 @@ def program_tests():
 
 def known_boxes():
     """Returns the boxes that have a vector."""
-    with open(os.path.join(TOP, "crates", "mp4_ported", "src", "vectors", "second.rt"), encoding="utf-8") as source:
+    with open(os.path.join(TOP, "crates", "test_shared", "src", "vectors", "second.rt"), encoding="utf-8") as source:
         return {box.lower() for box in re.findall(r"Second::(\w+) =>", source.read())}
 
 

@@ -1,5 +1,5 @@
 //! For maintainers: tests with hand-computed bytes and answers, from the standard and the layout table, one file for
-//! each box or subject. Other tests read the vectors of `mp4_ported` with every cut and with wrong sizes.
+//! each box or subject. Other tests read the vectors of `test_shared` with every cut and with wrong sizes.
 #![tactic(auto)]
 
 #[cfg(test)]

@@ -7,13 +7,13 @@
 mod refused_memory;
 mod without_memory;
 
-use mp4_ported::vectors::{FIRST_VECTORS, SECOND_VECTORS, Vector};
 use refused_memory::{
     Ending, clone_config, clone_set, keep_all, list_all, make_texts, shorten_offsets,
     write_and_read_all, write_and_read_each, write_and_read_marks,
 };
 use std::alloc::Global;
 use std::process::ExitCode;
+use test_shared::vectors::{FIRST_VECTORS, SECOND_VECTORS, Vector};
 use without_memory::{read_lists_without_memory, read_vectors_without_memory, read_without_memory};
 
 fn status(outcome: &Result<(), Ending>) -> u8 {

@@ -2,13 +2,13 @@
 //! memory leaves everything unchanged and is made again. Then it has its usual result, or is out of memory once more.
 
 use example_callers::mark::MarkBox;
-use mp4_ported::vectors::Vector;
 use mp4_stream::{
     AnyBox, AvcConfig, ByteCursor, Co64Box, Error, KeptBox, MdhdBox, MediaConfig, NalUnit, StcoBox,
     StreamBox, TryClone, WriteBox, language_string, list_boxes, read_boxes_as, write_boxes,
 };
 use std::alloc::Global;
 use std::slice;
+use test_shared::vectors::Vector;
 
 /// A reason for which a series of calls stops early.
 #[derive(Debug, Drop)]

@@ -1,9 +1,9 @@
 //! Calls of the codec that never ask for memory.
 
 use crate::refused_memory::Ending;
-use mp4_ported::vectors::Vector;
 use mp4_stream::{AnyBox, BoxHeader, ByteCursor, Error, StreamBox, read_boxes};
 use std::alloc::Global;
+use test_shared::vectors::Vector;
 
 /// Boxes that are read without memory, although their types may ask for it. These are a run without fields and samples
 /// of one size, whatever their count, and an empty reference and an empty configuration.

@@ -1,11 +1,11 @@
 //! Tests that writing asks for memory once, and leaves the vector unchanged if the request is refused.
 
 use linked_list_allocator::LocalHeap;
-use mp4_ported::vectors::{FIRST_VECTORS, SECOND_VECTORS, Vector};
 use mp4_stream::{AnyBox, Error, WriteBox, write_boxes};
 use std::alloc::Global;
 use std::test::Fail;
 use test_shared::helpers::{Kind, kind_of};
+use test_shared::vectors::{FIRST_VECTORS, SECOND_VECTORS, Vector};
 
 /// Writes `original` with a heap that has no memory left. Returns the kind of the outcome, and whether nothing was
 /// written.

@@ -3,11 +3,11 @@
 
 use super::lists::list_from;
 use super::streams::{kind_and_count, read_stream};
-use mp4_ported::vectors::{FIRST_VECTORS, SECOND_VECTORS, Vector};
 use mp4_stream::{ByteCursor, Error, KeptBox, read_boxes_as};
 use std::alloc::Global;
 use std::test::Fail;
 use test_shared::helpers::Kind;
+use test_shared::vectors::{FIRST_VECTORS, SECOND_VECTORS, Vector};
 
 /// A stream and a count for each length of a cut. The count is the number of boxes before the cut, or `None` if the cut
 /// is inside a box.

@@ -4,9 +4,9 @@
 //! `dinf` with it, and an `stsd` with the `mp4a`.
 
 use super::Vector;
+use crate::boxes::{entries, flat, sound, tables, text};
 use mp4_stream::{AnyBox, HvcCBox, Result, TrunBox};
 use std::alloc::Global;
-use test_shared::boxes::{entries, flat, sound, tables, text};
 
 /// A first vector. The variant names the type of its box.
 #[derive(Clone, Copy, Debug)]

@@ -1,9 +1,9 @@
 //! The second vectors of each type.
 
 use super::Vector;
+use crate::boxes::{entries, flat, sound, tables, text};
 use mp4_stream::{AnyBox, Result};
 use std::alloc::Global;
-use test_shared::boxes::{entries, flat, sound, tables, text};
 
 /// A second vector. The variant names the type of its box. The fields of most boxes are all different.
 #[derive(Clone, Copy, Debug, PartialEq, Eq)]
