@@ -1,0 +1,16 @@
+pub mod Digits
+pub mod Avc
+pub mod Hevc
+pub mod Av1
+pub mod Vp
+pub mod Visual
+pub mod Mpeg4
+pub mod Dolby
+pub mod Rounding
+pub mod Durations
+pub mod Totals
+pub mod RunTimes
+pub mod Rates
+pub mod Languages
+pub mod Rotation
+pub mod Channels
