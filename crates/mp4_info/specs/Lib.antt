@@ -10,7 +10,14 @@ pub mod Rounding
 pub mod Durations
 pub mod Totals
 pub mod RunTimes
+pub mod TrackPieces
 pub mod Rates
 pub mod Languages
 pub mod Rotation
 pub mod Channels
+pub mod Found
+pub mod Codecs
+pub mod Headers
+pub mod Entries
+pub mod Facts
+pub mod Tags
