@@ -1,4 +1,5 @@
 pub mod Files
 pub mod Boxes
 pub mod Plans
+pub mod WholeEdits
 pub mod Writing
