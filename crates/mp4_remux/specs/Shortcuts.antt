@@ -1,4 +1,4 @@
--- What shortcuts ask for.
+-- The parts of shortcuts that clauses name.
 use Rattle.std.specs.Prelude.{ℕ, ◌==◌, IsTrue, List, [], ◌∷◌}
 use Rattle.std.specs.List.{list_any}
 use Rattle.mp4_remux.specs.declared.edits.edit.Edit.{Edit}

@@ -11,12 +11,16 @@ use Rattle.mp4_remux_program.specs.EditedFile.{EditsFile, IsEdited, IsEditOf}
 use Rattle.mp4_remux_program.specs.declared.refusal.Stop.{Stop}
 use Rattle.mp4_remux_program.specs.declared.refusal.Stop.TheVariants.{Failed, Refused}
 
--- The file B after these splices of the top level is appended, and its media are kept. After a refusal nothing is
--- appended, and after a failure a beginning of the new file
+-- The file C is appended, and the media of the file B are kept in it. After a refusal nothing is appended, and after a
+-- failure a beginning of it
+abbrev pub WroteNew : {A : Type 0} → List ℕ → List ℕ → Option (List ℕ) → Option (List ℕ) → Result A Stop → Type 0
+WroteNew B C old new (Ok _) = KeepsMedia B C × Appends old new C
+WroteNew B C old new (Err (Refused r)) = Appends old new []
+WroteNew B C old new (Err (Failed f)) = Begins old new C
+
+-- the same of the file B after these splices of the top level
 abbrev pub WroteTops : {A : Type 0} → List ℕ → List Splice → Option (List ℕ) → Option (List ℕ) → Result A Stop → Type 0
-WroteTops B all old new (Ok _) = KeepsMedia B (spliced B all) × Appends old new (spliced B all)
-WroteTops B all old new (Err (Refused r)) = Appends old new []
-WroteTops B all old new (Err (Failed f)) = Begins old new (spliced B all)
+WroteTops B all old new res = WroteNew B (spliced B all) old new res
 
 -- The file B after the splices ss is appended, and its media are kept. After a refusal nothing is appended, and after a
 -- failure nothing, or a beginning of the new file

@@ -65,6 +65,13 @@ fn is_touched(found: &TreeBox, splices: &[Splice]) -> bool
     false
 }
 
+/// Returns whether none of `splices` touches the box, or the box lists no samples.
+fn is_untouched(found: &TreeBox, splices: &[Splice]) -> bool
+    ensures { IsTrue result → IsUntouched splices.now found.now }
+{
+    !is_sample_box(found) || !is_touched(found, splices)
+}
+
 /// Returns why the box of number `index`, which lists samples, can't be touched.
 fn touched(alloc: Global, boxes: &[TreeBox], index: usize, found: &TreeBox) -> Stop {
     let position = found.position;
@@ -84,7 +91,7 @@ fn check_untouched(alloc: Global, boxes: &[TreeBox], splices: &[Splice]) -> Resu
 {
     for index in 0..boxes.len() {
         let found = boxes[index];
-        if is_sample_box(&found) && is_touched(&found, splices) {
+        if !is_untouched(&found, splices) {
             return Err(touched(alloc, boxes, index, &found));
         }
     }

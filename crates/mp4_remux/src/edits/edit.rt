@@ -21,7 +21,7 @@ pub enum Edit {
     /// Inserts these bytes, which should be boxes, before the child of this number, counted from 0, or after the last
     /// child.
     Insert(Parent, Option<u64>, Vec<u8>),
-    /// Hides the `trak` or `traf` at this position, which is of the track with this track_ID: it becomes a `free` box of
-    /// the same length, so the track is dropped.
+    /// Hides the `trak` or `traf` at this position, which is of the track with this track_ID: it becomes a `free` box
+    /// of the same length, so the track is dropped.
     Hide(u64, u32),
 }

@@ -201,10 +201,10 @@ fn planned<S: Source>(alloc: Global, source: S, shortcuts: Vec<Shortcut>) -> Res
 fn stray(edit: &Edit, ids: &[u32]) -> Option<u32>
     ensures { result ≡ None → HidesDropped ids.now edit.now }
 {
-    match edit {
-        Edit::Hide(_, id) => { if ids.contains(id) { None } else { Some(*id) } }
-        _ => None,
-    }
+    let Edit::Hide(_, id) = edit else {
+        return None;
+    };
+    if ids.contains(id) { None } else { Some(*id) }
 }
 
 /// Checks that `edits` hide only boxes of tracks with one of the track_IDs `ids`.
