@@ -1,10 +1,10 @@
 -- The boxes of a level, the splices of edits, and a file after splices, one after the other.
-use Rattle.std.proofs.Common.{◌≡◌, ℕ, zero, suc, ◌+◌, ◌-◌, ◌<◌, ◌≤◌, Bool, true, false, cond, List, [], ◌∷◌, ◌++◌, length}
-use Rattle.std.proofs.Common.{take, drop, get_or, Some, refl, sym, ap, subst, ◌∙◌, arith}
-use Rattle.std.proofs.lemmas.List.{append-nil, append_assoc, drop_all, drop_more, take_rest}
-use Rattle.std.proofs.lemmas.List.Elements.{filter_more}
+use Rattle.std.proofs.Common.{◌≡◌, ℕ, zero, suc, ◌+◌, ◌-◌, ◌<◌, ◌≤◌, Bool, true, false, cond, List, [], ◌∷◌, ◌++◌}
+use Rattle.std.proofs.Common.{length, take, drop, get_or, Some, refl, sym, ap, subst, ◌∙◌, arith}
+use Rattle.std.proofs.lemmas.List.{append-nil, append_assoc, drop_all, drop_more, take_all, take_more, take_rest}
+use Rattle.std.proofs.lemmas.List.Elements.{All-push, filter_more}
 use Rattle.std.specs.List.{AllZip}
-use Rattle.std.specs.Prelude.{filter, slice_get}
+use Rattle.std.specs.Prelude.{All, filter, slice_get}
 use Rattle.mp4_walk.specs.Source.{piece}
 use Rattle.mp4_walk.specs.Tops.{is_whole}
 use Rattle.mp4_walk.specs.declared.tree_box.TreeBox.{TreeBox}
@@ -21,6 +21,17 @@ zip_push R [] [] x y h r = (r, tt)
 zip_push R [] (b ∷ ys) x y h r = absurd h
 zip_push R (a ∷ xs) [] x y h r = absurd h
 zip_push R (a ∷ xs) (b ∷ ys) x y h r = (h.0, zip_push R xs ys x y h.1 r)
+
+module _ {X : Type 0} (P : X → Type 0) (xs : List X) (i : ℕ) where
+  -- one more element has the property
+  pub all_more : (d : X) → i < length xs → All P (take i xs) → P (get_or xs i d) → All P (take (i + 1) xs)
+  all_more d within so_far here =
+      subst (λ (l : List X). All P l) (sym (take_more xs i d within))
+      (All-push P (take i xs) (get_or xs i d) so_far here)
+
+  -- all elements have it
+  pub all_end : length xs ≤ i → All P (take i xs) → All P xs
+  all_end gone so_far = subst (λ (l : List X). All P l) (take_all i xs gone) so_far
 
 get_more : {X : Type 0} (x : X) (xs : List X) (k : ℕ) → 0 < k → slice_get (x ∷ xs) k ≡ slice_get xs (k - 1)
 get_more x xs zero more = absurd (omega (arith, more))

@@ -2,23 +2,11 @@
 use Rattle.std.proofs.Common.{◌≡◌, ℕ, ◌+◌, ◌<◌, ◌≤◌, Bool, true, false, List, [], ◌∷◌, ◌++◌, take, drop, length, get_or}
 use Rattle.std.proofs.Common.{sym, ap, subst, ◌∙◌}
 use Rattle.std.proofs.lemmas.List.{drop_all, drop_more, take_all, take_more}
-use Rattle.std.proofs.lemmas.List.Elements.{All-push}
 use Rattle.std.specs.List.{AllZip}
-use Rattle.std.specs.Prelude.{All, filter}
+use Rattle.std.specs.Prelude.{filter}
 use Rattle.mp4_remux.proofs.Splicing.{filter_leaves, filter_takes, zip_push}
 use Rattle.mp4_remux_program.specs.EditedMovie.{AreApart}
 use Rattle.mp4_remux_program.specs.declared.edited.Span.{Span}
-
-module _ {X : Type 0} (P : X → Type 0) (xs : List X) (i : ℕ) where
-  -- one more element has the property
-  pub all_more : (d : X) → i < length xs → All P (take i xs) → P (get_or xs i d) → All P (take (i + 1) xs)
-  all_more d within so_far here =
-      subst (λ (l : List X). All P l) (sym (take_more xs i d within))
-      (All-push P (take i xs) (get_or xs i d) so_far here)
-
-  -- all elements have it
-  pub all_end : length xs ≤ i → All P (take i xs) → All P xs
-  all_end gone so_far = subst (λ (l : List X). All P l) (take_all i xs gone) so_far
 
 module _ {X Y : Type 0} (R : X → Y → Type 0) (xs : List X) (ys : List Y) (i : ℕ) where
   -- one more pair is related

@@ -98,16 +98,21 @@ alone_in (Some B) boxes ss tops order steady = λ are. record {
 }
 
 -- the splices are those around the movie box and the one that replaces it, if the bytes of the file are known
-pub around_in : (r : Option (List ℕ)) (boxes : List TreeBox) (x : TreeBox) (ss all tops inner : List Splice)
-    (m : Splice) (n begin end : ℕ) → begin ≡ x.position → end ≡ x.position + x.length → tops ≡ filter is_top ss
+pub around_in : (r s : Option (List ℕ)) (boxes : List TreeBox) (x : TreeBox) (ss all tops inner : List Splice)
+    (m : Splice) (n begin end : ℕ) → s ≡ r → begin ≡ x.position → end ≡ x.position + x.length
+    → tops ≡ filter is_top ss
     → AllZip (IsInner x.position (box_end x)) (filter (λ s. not (is_top s)) ss) inner
     → all ≡ take n tops ++ m ∷ drop n tops → m.depth ≡ 0 → m.begin ≡ begin → m.end ≡ end
     → IfSome r (λ B. IsMovieEdited begin end tops inner (piece B x.position x.length) m.bytes.items)
-    → IfSome r (λ B. AreInOrder (length B) all) → IfSome r (λ B. IsUnmisled all inner begin end (length B) boxes)
+    → IfSome s (λ B. AreInOrder (length B) all) → IfSome s (λ B. IsUnmisled all inner begin end (length B) boxes)
     → IfSome r (λ B. boxes ≡ boxes_of B → IsEditedAround B x ss all)
-around_in None boxes x ss all tops inner m n begin end begins ends are_tops are_inner joins depth m_begin m_end edited
-    order steady = tt
-around_in (Some B) boxes x ss all tops inner m n begin end begins ends are_tops are_inner joins depth m_begin m_end
-    edited order steady = λ are.
-    around B x ss all tops inner m n begin end begins ends are_tops are_inner joins depth m_begin m_end edited order
-    (subst (λ (xs : List TreeBox). IsUnmisled all inner begin end (length B) xs) are steady)
+around_in None s boxes x ss all tops inner m n begin end same begins ends are_tops are_inner joins depth m_begin m_end
+    edited order steady = tt
+around_in (Some B) s boxes x ss all tops inner m n begin end same begins ends are_tops are_inner joins depth m_begin
+    m_end edited order steady = λ are.
+    let order' : AreInOrder (length B) all =
+    subst (λ (o : Option (List ℕ)). IfSome o (λ B. AreInOrder (length B) all)) same order in
+    let steady' : IsUnmisled all inner begin end (length B) boxes =
+    subst (λ (o : Option (List ℕ)). IfSome o (λ B. IsUnmisled all inner begin end (length B) boxes)) same steady in
+    around B x ss all tops inner m n begin end begins ends are_tops are_inner joins depth m_begin m_end edited order'
+    (subst (λ (xs : List TreeBox). IsUnmisled all inner begin end (length B) xs) are steady')

@@ -120,18 +120,24 @@ named_written (Some B) again first second n hidden ss old new res firsts seconds
 of_edits : {A : Type 0} (B : List ℕ) (edits : List Edit) (hidden ss : List Splice) (old new : Option (List ℕ))
     (res : Result A Stop) → AreNamed B edits hidden ss → AreInOrder (length B) hidden
     → WroteSpliced (spliced B hidden) ss old new res → WroteEdited B edits old new res
-of_edits B edits hidden ss old new (Ok x) named order wrote =
-    (wrote.0, record {
-      edit = record { hidden = hidden; splices = ss; named = named; order = order; edited = wrote.1 };
-      media = wrote.2;
-    }, wrote.3)
+of_edits B edits hidden ss old new (Ok x) named order wrote = (
+  wrote.0,
+  record {
+    edit = record { hidden = hidden; splices = ss; named = named; order = order; edited = wrote.1 };
+    media = wrote.2;
+  },
+  wrote.3,
+)
 of_edits B edits hidden ss old new (Err (Refused r)) named order wrote = wrote
-of_edits B edits hidden ss old new (Err (Failed f)) named order wrote =
-    (wrote.0, elim wrote.1 [
-      | inl none ↦ inl none
-      | inr edited ↦
-          inr (record { hidden = hidden; splices = ss; named = named; order = order; edited = edited })
-    ], wrote.2)
+of_edits B edits hidden ss old new (Err (Failed f)) named order wrote = (
+  wrote.0,
+  elim wrote.1 [
+    | inl none ↦ inl none
+    | inr edited ↦
+        inr (record { hidden = hidden; splices = ss; named = named; order = order; edited = edited })
+  ],
+  wrote.2,
+)
 
 -- the splices are those of the edits
 pub edits_written : {A : Type 0} (r s again : Option (List ℕ)) (n : ℕ) (edits : List Edit) (hidden ss : List Splice)

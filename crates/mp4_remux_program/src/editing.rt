@@ -407,7 +407,8 @@ fn edited_around<S: Source>(
     let Some(end) = end_within(movie, walk.length()) else {
         return Err(Stop::Refused(Refusal::Obstacle(Obstacle::NotWhole(begin))));
     };
-    let Parts { tops, inner } = parted(alloc, boxes, movie, splices)?;
+    let parts = parted(alloc, boxes, movie, splices)?;
+    let Parts { tops, inner } = parts;
     let top = TopEdits {
         begin,
         end,

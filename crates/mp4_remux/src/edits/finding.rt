@@ -3,15 +3,23 @@
 ghost use Rattle.std.specs.Prelude.{◌≡◌, List, Option, Some, IfOk};
 ghost use Rattle.mp4_remux.specs.Splices.{box_end};
 ghost use Rattle.mp4_remux.specs.Spots.{after_spot};
-ghost use Rattle.mp4_walk.specs.Paths.{at_path, inside, of_nth};
+ghost use Rattle.mp4_walk.specs.Paths.{at_path, inside, is_meant, of_nth};
 ghost use Rattle.mp4_walk.specs.declared.tree_box.TreeBox.{TreeBox};
 
 use crate::edits::path_text::path_text;
 use crate::edits::refusal::EditRefusal;
 use crate::refusal::{Stop, refused};
+use mp4_frame::FourCC;
 use mp4_movie::BoxLocation;
 use mp4_walk::{BoxPath, PathPart, TreeBox};
 use std::alloc::Global;
+
+/// Returns whether `found` has this depth and code.
+fn is_meant(found: &TreeBox, depth: u64, code: FourCC) -> bool
+    ensures { result ≡ is_meant depth code found.now }
+{
+    found.depth == depth && found.has_code(code)
+}
 
 /// Returns the box that `part` selects in the level of `depth` in which `boxes` begins, and the boxes after it.
 fn spot_in<'a>(boxes: &'a [TreeBox], depth: u64, part: PathPart) -> Option<BoxLocation<'a>>
@@ -24,7 +32,7 @@ fn spot_in<'a>(boxes: &'a [TreeBox], depth: u64, part: PathPart) -> Option<BoxLo
         if found.depth < depth {
             return None;
         }
-        if found.depth == depth && found.has_code(part.code) {
+        if is_meant(&found, depth, part.code) {
             if before == part.index {
                 return Some(BoxLocation {
                     found,
@@ -45,9 +53,13 @@ pub fn box_at(boxes: &[TreeBox], path: &BoxPath) -> Option<TreeBox>
     let mut rest = boxes;
     let mut depth: u64 = 0;
     for part in &path.parts {
-        let spot = spot_in(rest, depth, *part)?;
-        last = Some(spot.found);
-        rest = spot.after;
+        match spot_in(rest, depth, *part) {
+            None => return None,
+            Some(spot) => {
+                last = Some(spot.found);
+                rest = spot.after;
+            }
+        }
         depth += 1;
     }
     last

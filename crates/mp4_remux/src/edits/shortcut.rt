@@ -212,8 +212,9 @@ fn check_hidden(edits: &[Edit], ids: &[u32]) -> Result<(), Stop>
     ensures { OnOk result (All (HidesDropped ids.now) edits.now) }
 {
     for edit in edits {
-        if let Some(id) = stray(edit, ids) {
-            return Err(refused(EditRefusal::NoTrackId(id)));
+        match stray(edit, ids) {
+            None => {}
+            Some(id) => return Err(refused(EditRefusal::NoTrackId(id))),
         }
     }
     Ok(())

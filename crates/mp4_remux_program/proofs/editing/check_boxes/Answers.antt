@@ -1,6 +1,6 @@
 use Rattle.std.proofs.Common.{◌≡◌, arith, false, ◌∙◌}
 use Rattle.mp4_walk.specs.declared.tree_box.TreeBox.{TreeBox}
-use Rattle.mp4_remux_program.proofs.Puts.{all_end, all_more}
+use Rattle.mp4_remux.proofs.Splicing.{all_end, all_more}
 use Rattle.mp4_remux_program.specs.EditedFile.{is_misled_by}
 use Rattle.mp4_remux_program.proofs.editing.check_boxes.Goals as goal
 

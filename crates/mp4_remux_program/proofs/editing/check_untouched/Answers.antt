@@ -1,5 +1,5 @@
 use Rattle.std.proofs.Common.{arith}
-use Rattle.mp4_remux_program.proofs.Puts.{all_end, all_more}
+use Rattle.mp4_remux.proofs.Splicing.{all_end, all_more}
 use Rattle.mp4_remux_program.specs.EditedFile.{IsUntouched}
 use Rattle.mp4_remux_program.proofs.editing.check_untouched.Goals as goal
 
