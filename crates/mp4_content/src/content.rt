@@ -1,10 +1,15 @@
 //! The content of a box that is shown.
 
-ghost use Rattle.std.specs.Prelude.{◌≡◌, ◌-◌, ◌≤◌, false, length, min, IsTrue, IfOk, OnOk, IfSome};
-ghost use Rattle.mp4_shown.specs.Members.{HandsMembers};
+ghost use Rattle.std.specs.Prelude.{◌≡◌, ◌-◌, ◌≤◌, ◌∷◌, [], false, length, min, IsTrue, IfOk, OnOk, IfSome};
+ghost use Rattle.mp4_show.specs.FrontFields.{sound_fields, usertype_fields};
+ghost use Rattle.mp4_shown.specs.Event.{shown_of};
+ghost use Rattle.mp4_shown.specs.Hands.{Hands};
+ghost use Rattle.mp4_shown.specs.declared.value.Value.{Value as AValue};
+ghost use Rattle.uuid.specs.Text.{hyphenated_text, lower};
 ghost use Rattle.mp4_frame.specs.Reading.{Answers};
 ghost use Rattle.mp4_io.specs.Ends.{is_write};
 ghost use Rattle.mp4_content.specs.Content.{leaf, is_faulty, front, Shows, ShowsKnown, ShowsFront, ShowsEnd, ShowsAs};
+ghost use Rattle.mp4_content.specs.Fields.{content_fields, front_fields, has_version};
 ghost use Rattle.mp4_content.specs.Kind.{kind_of};
 ghost use Rattle.mp4_content.specs.declared.kind.Kind.TheVariants as kinds;
 
@@ -201,7 +206,8 @@ pub fn content_of<B: Shown, S: Source>(
 
 /// Sends the type of a `uuid` box to `sink`.
 fn put_uuid<K: FieldSink>(bytes: [u8; 16], sink: &mut K) -> Result<()>
-    ensures whole { OnOk result (HandsMembers K.trace K.after sink.old sink.new) }
+    ensures fields { OnOk result (Hands K.trace K.after sink.old
+        (usertype_fields (hyphenated_text lower bytes)) sink.new) }
 {
     let id = Uuid::from_bytes(bytes);
     let mut buffer = Uuid::encode_buffer();
@@ -212,16 +218,17 @@ fn put_uuid<K: FieldSink>(bytes: [u8; 16], sink: &mut K) -> Result<()>
 /// Sends the fields of a sound entry, the first of `bytes`, to `sink`. QuickTime's version is left out if it is 0.
 fn put_sound_entry<K: FieldSink>(bytes: &[u8], is_quicktime: bool, sink: &mut K) -> Result<()>
     requires { 28 ≤ length bytes.now }
-    ensures whole { OnOk result (HandsMembers K.trace K.after sink.old sink.new) }
+    ensures fields { OnOk result ((rate : AValue) × Hands K.trace K.after sink.old
+        (sound_fields (has_version is_quicktime bytes.now) bytes.now (shown_of rate)) sink.new) }
 {
     let version = u16::from_be_bytes([bytes[8], bytes[9]]);
     put_sound(bytes, is_quicktime && version > 0, sink)
 }
 
 /// Sends the fields at the front of the content of a box to `sink`.
-#[tactic(auto, using(mp4_show::proofs::Handed::no_members))]
 fn put_front<K: FieldSink>(kind: Kind, bytes: &[u8], is_quicktime: bool, sink: &mut K) -> Result<()>
-    ensures whole { OnOk result (HandsMembers K.trace K.after sink.old sink.new) }
+    ensures fields { OnOk result ((rate : AValue) × Hands K.trace K.after sink.old
+        (front_fields kind is_quicktime bytes.now (shown_of rate)) sink.new) }
 {
     match kind {
         Kind::Full if bytes.len() >= 4 => put_full_head(bytes, sink),
@@ -239,14 +246,14 @@ fn put_front<K: FieldSink>(kind: Kind, bytes: &[u8], is_quicktime: bool, sink: &
     }
 }
 
-/// Sends the fields that were read to `sink`.
-#[tactic(auto, using(mp4_show::proofs::Handed::no_members))]
+/// Sends the fields that were read to `sink`, as much of them as it wants.
 pub fn put_content<B: BoxFields + Drop, K: FieldSink>(
     content: &Content<B>,
     is_quicktime: bool,
     sink: &mut K,
 ) -> Result<()>
-    ensures whole { OnOk result (HandsMembers K.trace K.after sink.old sink.new) }
+    ensures fields { OnOk result ((rate : AValue) × Hands K.trace K.after sink.old
+        (content_fields (B.shown (K.wanted sink.old)) is_quicktime content.now (shown_of rate)) sink.new) }
 {
     match content {
         Content::Known(value) => put_fields(value, sink),
