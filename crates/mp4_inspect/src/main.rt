@@ -122,15 +122,25 @@ fn inspect_source<S: Source, W: Write>(
     source: S,
     show: Show,
     output: &mut Output<Steady<W>>,
+    any: &mut bool,
 ) -> Outcome {
     let mut source = Kept::new(source);
     let is_empty = show.task != Task::Samples && matches!(source.length(), Ok(0));
     let mut faults = Vec::new(rt.alloc());
     let name = match show.task {
         Task::Json => file.name,
+        Task::Check if show.checks.json => file.name,
         _ => file.shown,
     };
-    let run = inspect::<ShownBox, _, _>(rt.alloc(), name, &mut source, show, output, &mut faults);
+    let run = inspect::<ShownBox, _, _>(
+        rt.alloc(),
+        name,
+        &mut source,
+        show,
+        output,
+        &mut faults,
+        any,
+    );
     for fault in &faults {
         let _ = eprintln!(rt; "mp4inspect: {}: {fault}", file.shown);
     }
@@ -159,10 +169,11 @@ fn inspect_stream<R: Read + Drop, W: Write>(
     reader: R,
     show: Show,
     output: &mut Output<Steady<W>>,
+    any: &mut bool,
 ) -> Outcome {
     let mut input = Input::new(Steady::new(reader));
     match read_all(rt.alloc(), &mut input) {
-        Ok(bytes) => inspect_source(rt, file, bytes.as_slice(), show, output),
+        Ok(bytes) => inspect_source(rt, file, bytes.as_slice(), show, output, any),
         Err(failure) => {
             tell(rt, file.shown, failure, input.inner.error);
             Outcome::Failed
@@ -176,10 +187,11 @@ fn inspect_input<W: Write>(
     file: Named<'_>,
     show: Show,
     output: &mut Output<Steady<W>>,
+    any: &mut bool,
 ) -> Outcome {
     match input_file(rt) {
-        Some(source) => inspect_source(rt, file, source, show, output),
-        None => inspect_stream(rt, file, rt.stdin(), show, output),
+        Some(source) => inspect_source(rt, file, source, show, output, any),
+        None => inspect_stream(rt, file, rt.stdin(), show, output, any),
     }
 }
 
@@ -190,10 +202,11 @@ fn inspect_open<W: Write>(
     mut source: File,
     show: Show,
     output: &mut Output<Steady<W>>,
+    any: &mut bool,
 ) -> Outcome {
     match how_to_read(&mut source) {
-        Ok(Reading::Seeks) => inspect_source(rt, file, source, show, output),
-        Ok(Reading::Streams) => inspect_stream(rt, file, source, show, output),
+        Ok(Reading::Seeks) => inspect_source(rt, file, source, show, output, any),
+        Ok(Reading::Streams) => inspect_stream(rt, file, source, show, output, any),
         Ok(Reading::Directory) => refuse(rt, file.shown, "this is a directory, not a file"),
         Ok(Reading::Device) => refuse(rt, file.shown, "this is a device, not a file"),
         Err(error) => {
@@ -210,6 +223,7 @@ fn inspect_named<W: Write>(
     name: &str,
     show: Show,
     output: &mut Output<Steady<W>>,
+    any: &mut bool,
 ) -> Result<Outcome, AllocError> {
     if let Some(shown) = unreadable(name) {
         return Ok(refuse(rt, shown, NOT_UTF_8));
@@ -220,10 +234,10 @@ fn inspect_named<W: Write>(
         shown: shown.as_str(),
     };
     if name == "-" {
-        return Ok(inspect_input(rt, file, show, output));
+        return Ok(inspect_input(rt, file, show, output, any));
     }
     match fs::open(rt, name) {
-        Ok(source) => Ok(inspect_open(rt, file, source, show, output)),
+        Ok(source) => Ok(inspect_open(rt, file, source, show, output, any)),
         Err(error) => {
             let _ = eprintln!(rt; "mp4inspect: {shown}: {error}");
             Ok(Outcome::Failed)
@@ -241,7 +255,9 @@ fn inspect_all<W: Write>(
 ) -> Result<(), Failure> {
     let look = look_of(rt, request);
     let mut follows = false;
-    if request.task == Task::Json {
+    let mut any = false;
+    let is_array = request.task == Task::Json || request.checks.json;
+    if is_array {
         write_all(output, b"[")?;
     }
     for name in &request.files {
@@ -251,15 +267,16 @@ fn inspect_all<W: Write>(
             several: request.files.len() > 1,
             follows,
             samples: choice_of(request),
+            checks: request.checks,
         };
-        let here = inspect_named(rt, name.as_str(), show, output)?;
+        let here = inspect_named(rt, name.as_str(), show, output, &mut any)?;
         *outcome = outcome.or_worse(here);
         if output.failed {
             return Err(Failure::Write);
         }
         follows = follows || here != Outcome::Failed;
     }
-    if request.task == Task::Json {
+    if is_array {
         write_all(output, b"]\n")?;
     }
     flush(output)
