@@ -1,6 +1,6 @@
 //! The program, from the source of a file to a writer.
 
-ghost use Rattle.std.specs.Prelude.{◌≡◌, ◌||◌, false, string_bytes, IfOk, OnOk, OnErr, IfSome};
+ghost use Rattle.std.specs.Prelude.{◌≡◌, ◌==◌, ◌||◌, not, length, false, string_bytes, IfOk, OnOk, OnErr, IfSome};
 ghost use Rattle.std.specs.Io.KnownBytes.{Appends};
 ghost use Rattle.mp4_check.specs.Faults.{WritesCheck};
 ghost use Rattle.mp4_check.specs.declared.lines.Told.{Told};
@@ -8,6 +8,7 @@ ghost use Rattle.mp4_inspect.specs.Checked.{form_of, is_bad};
 ghost use Rattle.mp4_inspect.specs.Heading.{heading_of};
 ghost use Rattle.mp4_inspect.specs.Json.{comma, WritesJson};
 ghost use Rattle.mp4_inspect.specs.Written.{WritesFile, BeginsFile};
+ghost use Rattle.mp4_inspect_samples.specs.Samples.{WritesSamples};
 ghost use Rattle.mp4_io.specs.Ends.{is_write};
 ghost use Rattle.mp4_movie.specs.Infos.{AreInfos};
 ghost use Rattle.mp4_movie.specs.Movies.{traks};
@@ -248,6 +249,11 @@ pub fn inspect<B: Shown, S: Source, W: Write>(
         (λ faulty. (told : Told) × WritesCheck B.known B.named_reading ⟦<SidxBox as ReadBox>⟧.reads
         (form_of show name.entry) any.old bytes (W.contents output.old.inner) (W.contents output.new.inner) told
         × (faulty ≡ is_bad show.checks told) × (any.new ≡ told.any))) }
+    ensures samples { show.task ≡ Task.Samples
+        → IfSome (S.all source)
+        (λ bytes. IfOk result
+        (λ faulty. WritesSamples show.samples bytes (W.contents output.old.inner) (W.contents output.new.inner)
+        faults.old.items faults.new.items × (faulty ≡ not (length faults.new.items == 0)))) }
 {
     match show.task {
         Task::Tree => {
@@ -263,7 +269,7 @@ pub fn inspect<B: Shown, S: Source, W: Write>(
         }
         Task::Samples => {
             write_samples(alloc, source, show.samples, output, faults)?;
-            Ok(!faults.is_empty())
+            Ok(!faults.as_slice().is_empty())
         }
     }
 }
