@@ -7,7 +7,7 @@ _mp4inspect() {
     esac
     case $command in
         check) words="--help" ;;
-        samples) words="--track --json --csv --beyond --help" ;;
+        samples) words="--track --json --csv --beyond --seconds --edits --sync --segments --help" ;;
         help) words="check samples" ;;
         *) words="--json --all --rows --wide --help --version" ;;
     esac

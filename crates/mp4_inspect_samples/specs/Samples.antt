@@ -1,5 +1,5 @@
 -- The samples of a file: the rows of its tracks, and the faults because of which samples are not listed.
-use Rattle.std.specs.Prelude.{◌≡◌, ℕ, ◌==◌, ◌&&◌, ◌||◌, not, Bool, true, false, is_some, is_none, List, [], ◌∷◌, ◌++◌}
+use Rattle.std.specs.Prelude.{◌≡◌, ◌⊎◌, ℕ, ◌==◌, ◌&&◌, ◌||◌, not, Bool, true, false, is_some, is_none, List, [], ◌∷◌, ◌++◌}
 use Rattle.std.specs.Prelude.{length, map, Result, Ok, Err, None, Some, if◌then◌else◌}
 use Rattle.std.specs.BTreeMap.{get}
 use Rattle.std.specs.Io.KnownBytes.{Appends}
@@ -12,15 +12,21 @@ use Rattle.mp4_frame.specs.declared.codes.TheConstants as codes
 use Rattle.mp4_movie.specs.Defaults.{AreFaults, trexes}
 use Rattle.mp4_movie.specs.Fragments.{AreFragments}
 use Rattle.mp4_movie.specs.Infos.{AreInfos}
-use Rattle.mp4_movie.specs.Levels.{Found, all_in, first_in}
+use Rattle.mp4_movie.specs.Levels.{Found, after_of, all_in, first_in}
 use Rattle.mp4_movie.specs.Movies.{samples_of, traks}
 use Rattle.mp4_movie.specs.declared.error.BoxError.{BoxError}
 use Rattle.mp4_movie.specs.declared.error.BoxError.TheVariants as errors
 use Rattle.mp4_movie.specs.declared.info.TrackInfo.{TrackInfo}
+use Rattle.mp4_movie.specs.Problems.{Problem, IsErrorOf}
+use Rattle.mp4_samples.specs.Edits.{AreEdits, EditList, Faults as EditFaults}
+use Rattle.mp4_samples.specs.declared.edit_fault.EditFault.{EditFault}
+use Rattle.mp4_tables.specs.declared.elst.ElstBox.{ElstBox}
 use Rattle.mp4_walk.specs.FileBoxes.{boxes_of}
 use Rattle.mp4_walk.specs.declared.tree_box.TreeBox.{TreeBox}
 use Rattle.mp4_inspect_samples.specs.Rows.{end_text, front_text}
-use Rattle.mp4_inspect_samples.specs.Tracks.{WritesNothing, WritesTrack}
+use Rattle.mp4_inspect_samples.specs.EditParts.{edit_list_of, edits_by, movie_timescale}
+use Rattle.mp4_inspect_samples.specs.Row.{Labels}
+use Rattle.mp4_inspect_samples.specs.Tracks.{WritesNothing, WritesTrack, id_of}
 use Rattle.mp4_inspect_samples.specs.Trafs.{Traf, added, header_faults, stored_for, trafs_of, with_id}
 use Rattle.mp4_inspect_samples.specs.declared.choice.Choice.{Choice}
 use Rattle.mp4_inspect_samples.specs.declared.fault.Fault.{Fault}
@@ -89,35 +95,102 @@ abbrev pub track_fault : TrackName → Option Fault → List TrackFault
 track_fault name None = []
 track_fault name (Some e) = record { track = Some name; fault = e } ∷ []
 
+-- the timescale of media, if it was read
+abbrev pub read_scale : Result ℕ BoxError → Option ℕ
+read_scale (Ok ticks) = Some ticks
+read_scale (Err _) = None
+
+-- what the rows of a track have besides its samples
+abbrev pub labels_for : Choice → TrackName → Result ℕ BoxError → Option EditList → Labels
+labels_for choice name scale edits = record {
+  track = id_of name;
+  clock = record { timescale = read_scale scale; seconds = choice.seconds };
+  edits = edits;
+  sync = choice.sync;
+}
+
+-- the rows of a track with presentation times by this edit list, or without edits
+abbrev pub WritesWith : Inputs → List ℕ → TrackName → Result ℕ BoxError → Option EditList → List TreeBox → Bool → Bool
+    → Option (List ℕ) → Option (List ℕ) → Option Fault → Type 0
+WritesWith i met name scale edits trak follows is_followed old new fault =
+    WritesTrack (limit_of i.choice i.file) i.choice.form (labels_for i.choice name scale edits)
+    (trafs_for i.trafs met name) (samples_of i.file trak) follows is_followed old new fault
+
+-- a track without rows has this fault
+abbrev pub Stops : Fault → Bool → Bool → Option (List ℕ) → Option (List ℕ) → Option Fault → Type 0
+Stops e follows is_followed old new fault = (fault ≡ Some e) × WritesNothing follows is_followed old new
+
+-- the rows of a track by its edit list, if it can be used
+abbrev pub WritesByList : Inputs → List ℕ → TrackName → Result ℕ BoxError → EditList → List TreeBox → Bool → Bool
+    → Option (List ℕ) → Option (List ℕ) → Option Fault → Type 0
+WritesByList i met name scale l trak follows is_followed old new fault =
+    (AreEdits l × WritesWith i met name scale (Some l) trak follows is_followed old new fault)
+    ⊎ ((e : EditFault) × EditFaults l e × Stops (faults.Edits e) follows is_followed old new fault)
+
+-- the first reason why a box can't be read
+abbrev pub StopsBy : Problem → Bool → Bool → Option (List ℕ) → Option (List ℕ) → Option Fault → Type 0
+StopsBy p follows is_followed old new fault =
+    (e : BoxError) × IsErrorOf e p × Stops (faults.Box e) follows is_followed old new fault
+
+abbrev pub WritesByBox : Inputs → List ℕ → TrackName → ℕ → ℕ → Result (Option ElstBox) Problem → List TreeBox → Bool
+    → Bool → Option (List ℕ) → Option (List ℕ) → Option Fault → Type 0
+WritesByBox i met name movie media (Err p) trak follows is_followed old new fault =
+    StopsBy p follows is_followed old new fault
+WritesByBox i met name movie media (Ok list) trak follows is_followed old new fault =
+    WritesByList i met name (Ok media) (edits_by list movie media) trak follows is_followed old new fault
+
+abbrev pub WritesByScale : Inputs → List ℕ → TrackName → ℕ → Result ℕ BoxError → List TreeBox → Bool → Bool
+    → Option (List ℕ) → Option (List ℕ) → Option Fault → Type 0
+WritesByScale i met name movie (Err e) trak follows is_followed old new fault =
+    Stops (faults.Box e) follows is_followed old new fault
+WritesByScale i met name movie (Ok media) trak follows is_followed old new fault =
+    WritesByBox i met name movie media (edit_list_of i.file trak) trak follows is_followed old new fault
+
+-- The rows of a track by its edit list. The timescales of the movie and of the media and the list have to be readable,
+-- and the first of them that is not is the fault.
+abbrev pub WritesEdited : Inputs → List ℕ → TrackName → Result ℕ Problem → Result ℕ BoxError → List TreeBox → Bool
+    → Bool → Option (List ℕ) → Option (List ℕ) → Option Fault → Type 0
+WritesEdited i met name (Err p) scale trak follows is_followed old new fault =
+    StopsBy p follows is_followed old new fault
+WritesEdited i met name (Ok movie) scale trak follows is_followed old new fault =
+    WritesByScale i met name movie scale trak follows is_followed old new fault
+
+-- the rows of a track, with presentation times as they are asked for
+abbrev pub WritesTimed : Bool → Inputs → List TreeBox → List ℕ → TrackName → Result ℕ BoxError → List TreeBox → Bool
+    → Bool → Option (List ℕ) → Option (List ℕ) → Option Fault → Type 0
+WritesTimed false i movie met name scale trak follows is_followed old new fault =
+    WritesWith i met name scale None trak follows is_followed old new fault
+WritesTimed true i movie met name scale trak follows is_followed old new fault =
+    WritesEdited i met name (movie_timescale i.file movie) scale trak follows is_followed old new fault
+
 -- the rows of a track, if they are asked for, and its fault
-abbrev pub WritesIf : Bool → Inputs → List ℕ → TrackName → List TreeBox → Bool → Bool → Option (List ℕ)
-    → Option (List ℕ) → List TrackFault → Type 0
-WritesIf true i met name trak follows is_followed old new told =
-    (fault : Option Fault)
-    × WritesTrack (limit_of i.choice i.file) i.choice.form name (trafs_for i.trafs met name) (samples_of i.file trak)
-    follows is_followed old new fault
+abbrev pub WritesIf : Bool → Inputs → List TreeBox → List ℕ → TrackName → Result ℕ BoxError → List TreeBox → Bool
+    → Bool → Option (List ℕ) → Option (List ℕ) → List TrackFault → Type 0
+WritesIf true i movie met name scale trak follows is_followed old new told =
+    (fault : Option Fault) × WritesTimed i.choice.edits i movie met name scale trak follows is_followed old new fault
     × (told ≡ track_fault name fault)
-WritesIf false i met name trak follows is_followed old new told =
+WritesIf false i movie met name scale trak follows is_followed old new told =
     (told ≡ []) × WritesNothing follows is_followed old new
 
--- what is written and told of a track, if those before it have these track_IDs
-abbrev pub WritesOne : Inputs → List ℕ → List TreeBox → TrackInfo → Bool → Bool → Option (List ℕ) → Option (List ℕ)
-    → List TrackFault → Type 0
-WritesOne i met trak info follows is_followed old new told =
+-- what is written and told of a track, if those before it have these track_IDs. `movie` begins with the boxes inside the
+-- moov
+abbrev pub WritesOne : Inputs → List TreeBox → List ℕ → List TreeBox → TrackInfo → Bool → Bool → Option (List ℕ)
+    → Option (List ℕ) → List TrackFault → Type 0
+WritesOne i movie met trak info follows is_followed old new told =
     let name = named info.position info.track_id in
     (rest : List TrackFault)
-    × WritesIf (is_wanted i.choice.track met name) i met name trak follows is_followed old new rest
+    × WritesIf (is_wanted i.choice.track met name) i movie met name info.timescale trak follows is_followed old new rest
     × (told ≡ name_faults info.position info.track_id ++ rest)
 
 -- what is written and told of these tracks, one after the other, and the track_IDs after them
-abbrev pub WritesTracks : Inputs → List ℕ → List Found → List TrackInfo → Bool → Option (List ℕ) → Option (List ℕ)
+abbrev pub WritesTracks : Inputs → List TreeBox → List ℕ → List Found → List TrackInfo → Bool → Option (List ℕ) → Option (List ℕ)
     → List TrackFault → List ℕ → Type 0
-WritesTracks i met [] infos follows old new told last = (new ≡ old) × (told ≡ []) × (last ≡ met)
-WritesTracks i met (f ∷ fs) [] follows old new told last = (new ≡ old) × (told ≡ []) × (last ≡ met)
-WritesTracks i met (f ∷ fs) (info ∷ infos) follows old new told last =
+WritesTracks i movie met [] infos follows old new told last = (new ≡ old) × (told ≡ []) × (last ≡ met)
+WritesTracks i movie met (f ∷ fs) [] follows old new told last = (new ≡ old) × (told ≡ []) × (last ≡ met)
+WritesTracks i movie met (f ∷ fs) (info ∷ infos) follows old new told last =
     (between : Bool) × (mid : Option (List ℕ)) × (one more : List TrackFault)
-    × WritesOne i met f.after info follows between old mid one
-    × WritesTracks i (with_name met (named info.position info.track_id)) fs infos between mid new more last
+    × WritesOne i movie met f.after info follows between old mid one
+    × WritesTracks i movie (with_name met (named info.position info.track_id)) fs infos between mid new more last
     × (told ≡ one ++ more)
 
 -- faults with this property are told after those before
@@ -135,7 +208,7 @@ pub record EntersTracks (i : Inputs) (movie : List TreeBox) (infos : List TrackI
     (before after : List TrackFault) (ahead : Ahead) : Type 0 where
   pub told : List TrackFault
   pub met : List ℕ
-  pub writes : WritesTracks i [] (all_in 1 (four_cc_of codes.TRAK) movie) infos false old new told met
+  pub writes : WritesTracks i movie [] (all_in 1 (four_cc_of codes.TRAK) movie) infos false old new told met
   pub told_is : after ≡ before ++ told
   pub ahead_is : IsAhead i.trafs met ahead
 
@@ -171,6 +244,10 @@ box_fault e = record { track = None; fault = faults.Box e }
 
 -- ---- the file
 
+-- the boxes after the header of the first moov
+abbrev pub movie_in : List TreeBox → List TreeBox
+movie_in boxes = after_of (first_in 0 (four_cc_of codes.MOOV) boxes)
+
 -- the parts of the movie of a file: the faults of its `trex` boxes, the fragments of each `moof`, the headers of the
 -- tracks
 pub record AreParts (file : List ℕ) (parts : MovieParts) : Type 0 where
@@ -197,7 +274,8 @@ pub record WritesSamples (choice : Choice) (file : List ℕ) (old new : Option (
   pub written : Option (List ℕ)
   pub told : List TrackFault
   pub met : List ℕ
-  pub tracks : WritesTracks (inputs_of file choice parts) [] (traks (boxes_of file)) parts.infos.items false begun
+  pub tracks : WritesTracks (inputs_of file choice parts) (movie_in (boxes_of file)) []
+      (traks (boxes_of file)) parts.infos.items false begun
       written told met
   pub absent : List TrackFault
   pub are_absent : AreMissing choice.track (trafs_by file parts) met absent

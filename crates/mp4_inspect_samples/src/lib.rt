@@ -3,6 +3,8 @@
 #![tactic(auto)]
 
 mod choice;
+mod clock;
+mod edits;
 mod fault;
 mod fragments;
 mod heading;
@@ -13,7 +15,10 @@ mod row;
 mod row_text;
 mod rows;
 mod samples_of_file;
+mod segment_text;
+mod segments;
 mod tables;
+mod time_text;
 mod track;
 mod tracks;
 

@@ -13,6 +13,7 @@ use crate::fragments::fragments_of;
 use crate::heading::{write_end, write_front};
 use crate::limit::Limit;
 use crate::lists::keep;
+use crate::segments::write_segments;
 use crate::tracks::{Ahead, keep_absent, write_tracks};
 use mp4_frame::codes::{MOOF, MOOV};
 use mp4_io::{Failure, Output, or_read};
@@ -142,7 +143,7 @@ fn write_parts<S: Source, W: Write>(
 /// Writes the samples of a file, a row for each. The rows of one track follow those of another. In a track the rows of
 /// its tables come first, then those of its fragments. The rows of a track end before the first sample that isn't
 /// listed. Stores the faults of tracks, and writes the samples of the other tracks. Needs memory for the boxes of the
-/// file and for the runs of all fragments.
+/// file and for the runs of all fragments. If `choice.segments` asks for it, writes a row for each `moof` instead.
 pub fn write_samples<S: Source, W: Write>(
     alloc: Global,
     source: S,
@@ -155,6 +156,9 @@ pub fn write_samples<S: Source, W: Write>(
         faults.old.items faults.new.items)) }
 {
     let mut movie = or_read(Movie::open(alloc, source))?;
+    if choice.segments {
+        return write_segments(alloc, movie, choice, output, faults);
+    }
     let parts = parts_of(alloc, &mut movie)?;
     let (mut walk, boxes) = movie.into_parts();
     write_parts(alloc, &mut walk, &boxes, parts, choice, output, faults)

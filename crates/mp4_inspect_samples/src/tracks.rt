@@ -2,8 +2,9 @@
 
 ghost use Rattle.std.specs.Prelude.{◌≡◌, ◌==◌, ◌||◌, ◌++◌, ℕ, [], is_some, map, Some, List, IfOk, OnOk, ◌∷◌};
 ghost use Rattle.std.specs.Prelude.{if◌then◌else◌};
-ghost use Rattle.mp4_inspect_samples.specs.Samples.{AreMissing, EntersTracks, Inputs, IsAhead, Tells, WritesIf};
-ghost use Rattle.mp4_inspect_samples.specs.Samples.{WritesOne};
+ghost use Rattle.mp4_inspect_samples.specs.Samples.{AreMissing, EntersTracks, Inputs, IsAhead, Tells};
+ghost use Rattle.mp4_inspect_samples.specs.EditParts.{movie_timescale};
+ghost use Rattle.mp4_inspect_samples.specs.Samples.{WritesEdited, WritesOne, WritesTimed, read_scale};
 ghost use Rattle.mp4_inspect_samples.specs.Samples.{is_met, is_wanted, limit_of, missing, name_faults, named, track_fault};
 ghost use Rattle.mp4_inspect_samples.specs.Samples.{trafs_for, with_name};
 ghost use Rattle.mp4_inspect_samples.specs.Trafs.{AreStored, Traf};
@@ -13,17 +14,21 @@ ghost use Rattle.std.specs.Set.{is_member};
 ghost use Rattle.mp4_inspect_samples.specs.declared.fault.TrackName.TheVariants as tracks;
 
 use crate::choice::Choice;
+use crate::clock::Clock;
+use crate::edits::edit_parts;
 use crate::fault::{Fault, TrackFault, TrackName};
 use crate::fragments::{Fragments, TrackTraf};
 use crate::heading::Heading;
 use crate::limit::Limit;
 use crate::lists::keep;
+use crate::row::RowRule;
 use crate::rows::RowWriter;
 use crate::track::write_track;
 use mp4_frame::FourCC;
 use mp4_frame::codes::TRAK;
 use mp4_io::{Failure, Output};
 use mp4_movie::{BoxError, TrackInfo, first_in};
+use mp4_samples::Edits;
 use mp4_walk::{BoxWalk, Source, TreeBox};
 use std::alloc::{AllocError, Global};
 use std::collections::BTreeMap;
@@ -140,39 +145,119 @@ fn keep_fault(
     }
 }
 
-/// Writes the samples of a track if `is_wanted`, and stores its fault. `trak` begins with the boxes inside its `trak`.
-fn write_if<S: Source, W: Write>(
+/// Writes the samples of a track with presentation times by its edit list, up to the first fault. Returns the fault.
+/// Writes nothing if the edit list can't be used. `movie` begins with the boxes inside the `moov`, and `trak` with those
+/// inside the `trak`. `media` is the timescale of the media.
+fn write_edited<S: Source, W: Write>(
     alloc: Global,
     walk: &mut BoxWalk<S>,
+    movie: &[TreeBox],
     trak: &[TreeBox],
-    is_wanted: bool,
     heading: Heading,
+    media: Result<u32, BoxError>,
     trafs: Vec<TrackTraf>,
+    choice: Choice,
     limit: Limit,
     writer: &mut RowWriter,
     output: &mut Output<W>,
-    faults: &mut Vec<TrackFault>,
-) -> Result<(), Failure>
+) -> Result<Option<Fault>, Failure>
     ensures writes { (i : Inputs) (met : List ℕ) → walk.old.bytes ≡ Some i.file → limit ≡ limit_of i.choice i.file
-        → writer.old.form ≡ i.choice.form → trafs.items ≡ trafs_for i.trafs met heading.name
-        → OnOk result (Tells (WritesIf is_wanted i met heading.name trak.now writer.old.follows writer.new.follows
-        (W.contents output.old.inner) (W.contents output.new.inner)) faults.old.items faults.new.items) }
+        → choice ≡ i.choice → writer.old.form ≡ i.choice.form → trafs.items ≡ trafs_for i.trafs met heading.name
+        → heading.timescale ≡ read_scale media
+        → IfOk result (WritesEdited i met heading.name (movie_timescale i.file movie.now) media trak.now
+        writer.old.follows writer.new.follows (W.contents output.old.inner) (W.contents output.new.inner)) }
     ensures form { writer.new.form ≡ writer.old.form }
     ensures kept { walk.new ≡ walk.old }
 {
-    if !is_wanted {
-        return Ok(());
+    let parts = match edit_parts(alloc, walk, movie, trak, media)? {
+        Ok(parts) => parts,
+        Err(error) => return Ok(Some(Fault::Box(error))),
+    };
+    match Edits::new(
+        parts.list.as_ref(),
+        parts.movie_timescale,
+        parts.media_timescale,
+    ) {
+        Ok(edits) => {
+            let rule = RowRule {
+                track: heading.name.id(),
+                clock: clock_of(heading, choice),
+                edits: Some(&edits),
+                sync: choice.sync,
+            };
+            write_track(
+                alloc, walk, trak, heading, &rule, trafs, limit, writer, output,
+            )
+        }
+        Err(fault) => Ok(Some(Fault::Edits(fault))),
     }
-    let fault = write_track(alloc, walk, trak, heading, trafs, limit, writer, output)?;
-    keep_fault(heading.name, fault, faults)?;
-    Ok(())
 }
 
-/// Writes the samples of a track, if they are asked for, and stores its faults. `trak` begins with the boxes inside its
-/// `trak`.
+/// Returns the timescale and the unit of the times of a track.
+fn clock_of(heading: Heading, choice: Choice) -> Clock
+    ensures { result ≡ record { timescale = heading.timescale; seconds = choice.seconds } }
+{
+    Clock {
+        timescale: heading.timescale,
+        seconds: choice.seconds,
+    }
+}
+
+/// Writes the samples of a track, with presentation times as they are asked for, up to the first fault. Returns the
+/// fault.
+fn write_chosen<S: Source, W: Write>(
+    alloc: Global,
+    walk: &mut BoxWalk<S>,
+    movie: &[TreeBox],
+    trak: &[TreeBox],
+    heading: Heading,
+    media: Result<u32, BoxError>,
+    trafs: Vec<TrackTraf>,
+    choice: Choice,
+    limit: Limit,
+    writer: &mut RowWriter,
+    output: &mut Output<W>,
+) -> Result<Option<Fault>, Failure>
+    ensures writes { (i : Inputs) (met : List ℕ) → walk.old.bytes ≡ Some i.file → limit ≡ limit_of i.choice i.file
+        → choice ≡ i.choice → writer.old.form ≡ i.choice.form → trafs.items ≡ trafs_for i.trafs met heading.name
+        → heading.timescale ≡ read_scale media
+        → IfOk result (WritesTimed choice.edits i movie.now met heading.name media trak.now
+        writer.old.follows writer.new.follows (W.contents output.old.inner) (W.contents output.new.inner)) }
+    ensures form { writer.new.form ≡ writer.old.form }
+    ensures kept { walk.new ≡ walk.old }
+{
+    if choice.edits {
+        return write_edited(
+            alloc, walk, movie, trak, heading, media, trafs, choice, limit, writer, output,
+        );
+    }
+    let rule = RowRule {
+        track: heading.name.id(),
+        clock: clock_of(heading, choice),
+        edits: None,
+        sync: choice.sync,
+    };
+    write_track(
+        alloc, walk, trak, heading, &rule, trafs, limit, writer, output,
+    )
+}
+
+/// Returns the timescale that was read, if it could be.
+fn read_timescale(read: &Result<u32, BoxError>) -> Option<u32>
+    ensures { result ≡ read_scale read.now }
+{
+    match read {
+        Ok(timescale) => Some(*timescale),
+        Err(_) => None,
+    }
+}
+
+/// Writes the samples of a track, if they are asked for, and stores its faults. `movie` begins with the boxes inside the
+/// `moov`, and `trak` with those inside the `trak`.
 fn write_one<S: Source, W: Write>(
     alloc: Global,
     walk: &mut BoxWalk<S>,
+    movie: &[TreeBox],
     trak: &[TreeBox],
     info: TrackInfo,
     choice: Choice,
@@ -184,7 +269,7 @@ fn write_one<S: Source, W: Write>(
 ) -> Result<(), Failure>
     ensures writes { (i : Inputs) (met : List ℕ) → walk.old.bytes ≡ Some i.file → limit ≡ limit_of i.choice i.file
         → choice ≡ i.choice → writer.old.form ≡ i.choice.form → IsAhead i.trafs met ahead.old
-        → OnOk result (Tells (WritesOne i met trak.now info writer.old.follows writer.new.follows
+        → OnOk result (Tells (WritesOne i movie.now met trak.now info writer.old.follows writer.new.follows
         (W.contents output.old.inner) (W.contents output.new.inner)) faults.old.items faults.new.items) }
     ensures met { (trafs : List Traf) (met : List ℕ) → IsAhead trafs met ahead.old
         → OnOk result (IsAhead trafs (with_name met (named info.position info.track_id)) ahead.new) }
@@ -201,14 +286,19 @@ fn write_one<S: Source, W: Write>(
     let name = name_of(position, track_id, faults)?;
     let is_wanted = ahead.is_wanted(choice.track, name);
     let trafs = ahead.enter(alloc, name)?;
+    if !is_wanted {
+        return Ok(());
+    }
     let heading = Heading {
         name,
         handler: handler.ok(),
-        timescale: timescale.ok(),
+        timescale: read_timescale(&timescale),
     };
-    write_if(
-        alloc, walk, trak, is_wanted, heading, trafs, limit, writer, output, faults,
-    )
+    let fault = write_chosen(
+        alloc, walk, movie, trak, heading, timescale, trafs, choice, limit, writer, output,
+    )?;
+    keep_fault(name, fault, faults)?;
+    Ok(())
 }
 
 /// Writes the samples of the tracks `infos`, one after the other, and stores their faults. `movie` begins with the
@@ -239,6 +329,7 @@ pub fn write_tracks<S: Source, W: Write>(
         write_one(
             alloc,
             walk,
+            movie,
             place.after,
             info,
             choice,
