@@ -1,0 +1,3 @@
+mod Digits
+pub mod EachSteps
+mod Places
