@@ -1,9 +1,9 @@
 """Refuses every request for memory in turn, from outside, to the built programs: once only that request, and once that
 request and all after it.
 
-- test_memory writes and reads every vector, by itself and as one stream. After one refusal it has to end with status 0:
-  every call has its usual result, at the second try if need be. If all later requests are refused too, it may end with
-  status 1: a call is out of memory twice, and nothing else is wrong.
+- `test_probe memory` writes and reads every vector, by itself and as one stream. After one refusal it has to end with
+  status 0: every call has its usual result, at the second try if need be. If all later requests are refused too, it may
+  end with status 1: a call is out of memory twice, and nothing else is wrong.
 - mp4boxes prints "out of memory" and writes nothing, or does what it does with ample memory.
 - mp4remux prints "out of memory", ends with status 3 and leaves no file, or does what it does with ample memory.
 - mp4inspect prints "out of memory" after a beginning of its output, and ends with status 3. With --json the beginning
@@ -51,7 +51,7 @@ class RefusedMemory(unittest.TestCase):
         return ample, runs
 
     def test_every_vector(self):
-        _, runs = self.refusals([built("test_memory")])
+        _, runs = self.refusals([built("test_probe"), "memory"])
         for number, and_later, run in runs:
             with self.subTest(request=number, and_later=and_later):
                 self.assertIn(run.returncode, (0, 1) if and_later else (0,))

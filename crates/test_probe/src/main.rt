@@ -31,14 +31,18 @@
 //! its JSON. The two records of the output have the bytes that are written of the declared box and of the codec's, or
 //! why the JSON is refused (`taken.rt`). With the argument `back` the record of the output has a line for each box in
 //! the bytes: `same`, if the JSON that is shown of the box gives the box back.
+//!
+//! With the argument `memory` the program reads no input, and its status is that of `memory.rt`.
 #![tactic(auto)]
 
 mod declared;
+mod memory;
 mod movie;
 mod structure;
 mod taken;
 
 use crate::declared::{show_declared, show_trees};
+use crate::memory::use_memory;
 use crate::movie::show_movie;
 use crate::taken::{show_back, show_taken};
 use mp4_box_tree::AllBoxes;
@@ -49,6 +53,7 @@ use mp4_stream::{
 use std::alloc::{AllocError, Global};
 use std::fmt::Debug;
 use std::io::{Read, Write};
+use std::process::ExitCode;
 use std::{env, io};
 
 /// Returns the position and the bytes of the first record in `input`, and the input after it. Returns `None` if the
@@ -206,26 +211,32 @@ enum Shown {
     Back,
 }
 
-/// Returns what is shown of each record, by the program's argument.
-fn shown_by(rt: &HostRuntime) -> io::Result<Shown> {
+/// The tasks of the program.
+#[derive(Clone, Copy)]
+enum Task {
+    /// Prints a text of each record.
+    Show(Shown),
+    /// Makes the calls of `memory.rt`.
+    UseMemory,
+}
+
+/// Returns the task of the program, by its argument.
+fn task_of(rt: &HostRuntime) -> io::Result<Task> {
     let mut words = env::args(rt)?;
     let _program = words.next();
     Ok(match words.next() {
-        None => Shown::Boxes,
-        Some(word) => {
-            if word.as_str() == "json" {
-                Shown::Json
-            } else if word.as_str() == "back" {
-                Shown::Back
-            } else {
-                Shown::Movie
-            }
-        }
+        None => Task::Show(Shown::Boxes),
+        Some(word) => match word.as_str() {
+            "memory" => Task::UseMemory,
+            "json" => Task::Show(Shown::Json),
+            "back" => Task::Show(Shown::Back),
+            _ => Task::Show(Shown::Movie),
+        },
     })
 }
 
-fn main(rt: HostRuntime) -> io::Result<()> {
-    let by = shown_by(&rt)?;
+/// Reads all records, and prints what is shown of each.
+fn show_records(rt: &HostRuntime, by: Shown) -> io::Result<()> {
     let mut input = Vec::new(rt.alloc());
     rt.stdin().read_to_end(&mut input)?;
     let mut out = Vec::new(rt.alloc());
@@ -243,4 +254,23 @@ fn main(rt: HostRuntime) -> io::Result<()> {
         rest = after;
     }
     rt.stdout().write_all(&out)
+}
+
+/// Returns the task of the program. If memory is refused, it is asked for once more.
+fn task_at_last(rt: &HostRuntime) -> io::Result<Task> {
+    match task_of(rt) {
+        Ok(task) => Ok(task),
+        Err(_) => task_of(rt),
+    }
+}
+
+fn main(rt: HostRuntime) -> ExitCode {
+    match task_at_last(&rt) {
+        Ok(Task::UseMemory) => use_memory(rt.alloc()),
+        Ok(Task::Show(by)) => match show_records(&rt, by) {
+            Ok(()) => ExitCode::SUCCESS,
+            Err(_) => ExitCode::FAILURE,
+        },
+        Err(_) => ExitCode::FAILURE,
+    }
 }

@@ -1,8 +1,7 @@
-//! For maintainers: a program that writes and reads every vector, each by itself and all as one stream. `tests/memory`
-//! refuses its requests for memory from outside. The status is 0 if every call has its usual result at the first or
-//! second try. The status is 1 if a call is out of memory twice. The status is 2 if a call has any other result, or
-//! leaves anything changed that it should not.
-#![tactic(auto)]
+//! Writes and reads every vector, each by itself and all as one stream. `tests/memory` refuses the requests for memory
+//! from outside. The status is 0 if every call has its usual result at the first or second try. The status is 1 if a
+//! call is out of memory twice. The status is 2 if a call has any other result, or leaves anything changed that it
+//! should not.
 
 mod refused_memory;
 mod without_memory;
@@ -57,8 +56,8 @@ fn use_others(alloc: Global) -> u8 {
     ])
 }
 
-fn main(rt: HostRuntime) -> ExitCode {
-    let alloc = rt.alloc();
+/// Makes all calls, and returns the worst status.
+pub(crate) fn use_memory(alloc: Global) -> ExitCode {
     let first = use_vectors(alloc, &FIRST_VECTORS);
     let second = use_vectors(alloc, &SECOND_VECTORS);
     ExitCode::from(first.max(second).max(use_others(alloc)))

@@ -1,6 +1,6 @@
 //! Calls of the codec that never ask for memory.
 
-use crate::refused_memory::Ending;
+use super::refused_memory::Ending;
 use mp4_stream::{AnyBox, BoxHeader, ByteCursor, Error, StreamBox, read_boxes};
 use std::alloc::Global;
 use test_shared::vectors::Vector;
