@@ -251,7 +251,7 @@ fn kind_of(is_known: bool, data_type: u32, count: usize) -> ValueKind
 }
 
 /// Returns the signed number in 1, 2, 4 or 8 bytes.
-fn signed_in(bytes: &[u8]) -> i64
+pub fn signed_in(bytes: &[u8]) -> i64
     requires { (length bytes.now == 1 || (length bytes.now == 2 || (length bytes.now == 4 || length bytes.now == 8)))
         ≡ true }
     ensures { result ≡ signed_in bytes.now }

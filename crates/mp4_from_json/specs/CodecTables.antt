@@ -197,16 +197,17 @@ firsts_agree name i (e ∷ es) (run ∷ runs) =
 abbrev pub runs_of : List ChunkRun → List StscEntry
 runs_of runs = map (λ run. run.0) runs
 
--- the first samples of runs, if they fit 32 bits
-abbrev pub firsts_in : List ChunkRun → Option (List ℕ)
-firsts_in runs =
-    if chunks_fit (runs_of runs) then Some (map (λ e. e.first_sample) (number_samples (runs_of runs))) else None
+-- the runs with their first samples, if these fit 32 bits
+abbrev pub entries_of : List ChunkRun → Option (List StscEntry)
+entries_of runs = if chunks_fit (runs_of runs) then Some (number_samples (runs_of runs)) else None
+
+abbrev pub after_firsts : List ℕ → List ChunkRun → Option (List StscEntry) → Taking (List StscEntry)
+after_firsts name runs (Some entries) = firsts_agree name 0 entries runs >>= λ _. Ok entries
+after_firsts name runs None = refused name reasons.OutOfRange
 
 -- the runs with their first samples, which have to fit 32 bits
 abbrev pub numbered_runs : List ℕ → List ChunkRun → Taking (List StscEntry)
-numbered_runs name runs =
-    expect (chunks_fit (runs_of runs)) name reasons.OutOfRange >>= λ _.
-    firsts_agree name 0 (number_samples (runs_of runs)) runs >>= λ _. Ok (number_samples (runs_of runs))
+numbered_runs name runs = after_firsts name runs (entries_of runs)
 
 abbrev pub runs_taken : Text → Takes (List StscEntry)
 runs_taken name ms =

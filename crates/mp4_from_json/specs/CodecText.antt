@@ -14,7 +14,7 @@ use Rattle.mp4_text.specs.declared.emsg.EmsgBox.{EmsgBox}
 use Rattle.mp4_text.specs.declared.ftyp.FtypBox.{FtypBox}
 use Rattle.mp4_text.specs.declared.hdlr.HdlrBox.{HdlrBox}
 use Rattle.mp4_text.specs.declared.url.UrlBox.{UrlBox}
-use Rattle.mp4_show.specs.Metadata.{integer}
+use Rattle.mp4_show.specs.Metadata.{integer, integer_width}
 use Rattle.mp4_from_json.specs.declared.codec.metadata.TheConstants.{DATA_TYPE}
 use Rattle.mp4_from_json.specs.Numbers.{at_path, number_taken}
 use Rattle.mp4_from_json.specs.Object.{take_out, take_one, has}
@@ -108,12 +108,6 @@ type_or_refused n =
 abbrev pub digits_taken : List ℕ → Takes (List ℕ)
 digits_taken name ms = take_one name ms >>= λ p. at_path name (hex_in p.0) >>= λ bytes. Ok (bytes, p.1)
 
--- the least of 1, 2 and 4 bytes that have room for a number
-abbrev pub integer_width : ℤ → ℕ
-integer_width z =
-    if int_le (negsuc (2 ^ 7 - 1)) z && int_le z (pos (2 ^ 7 - 1)) then 1 else
-    if int_le (negsuc (2 ^ 15 - 1)) z && int_le z (pos (2 ^ 15 - 1)) then 2 else 4
-
 abbrev pub integer_bytes : ℤ → List ℕ
 integer_bytes z = be_bytes (integer_width z) (cast_unsigned w64 z)
 
@@ -164,4 +158,5 @@ make_data t bytes = record { data_bytes = bytes; data_type = t }
 
 abbrev pub data_box_taken : Takes DataBox
 data_box_taken ms =
-    number_taken DATA_TYPE 32 ms >>= λ p. type_or_refused p.0 >>= λ t. value_taken t p.1 >>= λ q. Ok (make_data t q.0, q.1)
+    number_taken DATA_TYPE 32 ms >>= λ p. type_or_refused p.0 >>= λ t. value_taken t p.1 >>= λ q.
+    Ok (make_data t q.0, q.1)

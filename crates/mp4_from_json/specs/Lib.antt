@@ -1,4 +1,5 @@
 pub mod Taking
+pub mod TakingLaws
 pub mod Messages
 pub mod Decimal
 pub mod Values
@@ -22,11 +23,3 @@ pub mod CodecText
 pub mod CodecEntries
 pub mod CodecSound
 pub mod Codec
-pub mod Shown
-pub mod ShownLaws
-pub mod Back
-pub mod BackNumbers
-pub mod BackRuns
-pub mod BackLists
-pub mod BackItems
-pub mod BackShapes

@@ -61,21 +61,19 @@ av1c_taken l ms =
 abbrev pub hex_taken : List ℕ → Takes (List ℕ)
 hex_taken name ms = take_one name ms >>= λ p. at_path name (hex_in p.0) >>= λ bytes. Ok (bytes, p.1)
 
--- the bytes of a number under each name
-abbrev pub words_taken : List NumberName → ℕ → Takes (List ℕ)
-words_taken [] width ms = Ok ([], ms)
-words_taken (f ∷ fs) width ms =
-    number_taken f (8 * width) ms >>= λ p. words_taken fs width p.1 >>= λ q. Ok (be_bytes width p.0 ++ q.0, q.1)
+abbrev pub nclc_bytes : List ℕ → List ℕ
+nclc_bytes (primaries ∷ transfer ∷ matrix ∷ ns) = be_bytes 2 primaries ++ (be_bytes 2 transfer ++ be_bytes 2 matrix)
+nclc_bytes ns = []
 
-abbrev pub first_three : List NumberName → List NumberName
-first_three (a ∷ b ∷ c ∷ fs) = a ∷ b ∷ c ∷ []
-first_three fs = fs
+-- the first three numbers, of two bytes each
+abbrev pub nclc_taken : Takes (List ℕ)
+nclc_taken ms = map_taken nclc_bytes (numbers_taken colr.NAMES.1.0.now (16 ∷ 16 ∷ 16 ∷ []) ms)
 
 abbrev pub colour_bytes : ℕ → Takes (List ℕ)
 colour_bytes tag ms =
     if (tag == colr.RICC) || (tag == colr.PROF) then hex_taken colr.NAMES.1.1.0.now ms
     else if (tag == colr.NCLC) && not (has colr.NAMES.1.1.1.now ms)
-    then words_taken (first_three colr.NAMES.1.0.now) 2 ms
+    then nclc_taken ms
     else hex_taken colr.NAMES.1.1.1.now ms
 
 abbrev make_colr : OfType Nclx (List ℕ) → Colr
@@ -122,30 +120,34 @@ abbrev pub stream_widths : List ℕ
 stream_widths = 16 ∷ 16 ∷ 24 ∷ 24 ∷ 20 ∷ 4 ∷ 6 ∷ 36 ∷ []
 
 -- a number from 1 to `most`
-abbrev pub counted_from_one : ℕ → ℕ → Bool
-counted_from_one most n = nat_le 1 n && nat_le n most
+abbrev pub counted_from_one : List ℕ → ℕ → ℕ → Taking ℕ
+counted_from_one name most n = expect (nat_le 1 n && nat_le n most) name reasons.OutOfRange >>= λ _. Ok n
 
--- the bytes of the numbers; channels and bits are kept minus one
-abbrev pub stream_bytes : List NumberName → List ℕ → Taking (List ℕ)
-stream_bytes (_ ∷ _ ∷ _ ∷ _ ∷ _ ∷ f ∷ g ∷ _) (a ∷ b ∷ c ∷ d ∷ rate ∷ channels ∷ bits ∷ total ∷ []) =
-    expect (counted_from_one 8 channels) f.0.now reasons.OutOfRange >>= λ _.
-    expect (counted_from_one 32 bits) g.0.now reasons.OutOfRange >>= λ _.
+-- rate, channels, bits and number of samples; channels and bits are kept minus one
+abbrev pub stream_word : ℕ → ℕ → ℕ → ℕ → ℕ
+stream_word rate channels bits total = rate * 2 ^ 44 + (channels - 1) * 2 ^ 41 + (bits - 1) * 2 ^ 36 + total
+
+-- the bytes of the numbers
+abbrev pub stream_bytes : List ℕ → Taking (List ℕ)
+stream_bytes (a ∷ b ∷ c ∷ d ∷ rate ∷ channels ∷ bits ∷ total ∷ ns) =
+    counted_from_one (codes "channels") 8 channels >>= λ _. counted_from_one (codes "bits_per_sample") 32 bits >>= λ _.
     Ok (be_bytes 2 a ++ (be_bytes 2 b ++ (be_bytes 3 c ++ (be_bytes 3 d
-    ++ be_bytes 8 (rate * 2 ^ 44 + ((channels - 1) * 2 ^ 41 + ((bits - 1) * 2 ^ 36 + total)))))))
-stream_bytes fs ns = Ok []
+    ++ be_bytes 8 (stream_word rate channels bits total)))))
+stream_bytes ns = Ok []
 
-abbrev pub stream_numbers_taken : List NumberName → Takes (List ℕ)
-stream_numbers_taken fs ms = numbers_taken fs stream_widths ms >>= λ p. stream_bytes fs p.0 >>= λ bytes. Ok (bytes, p.1)
+abbrev pub stream_numbers_taken : Takes (List ℕ)
+stream_numbers_taken ms =
+    numbers_taken dfla.STREAM.now stream_widths ms >>= λ p. stream_bytes p.0 >>= λ bytes. Ok (bytes, p.1)
 
-abbrev pub info_taken : List NumberName → BytesName → Takes (List ℕ)
-info_taken fs checksum ms =
-    stream_numbers_taken fs ms >>= λ p. run_if checksum (λ sum. length sum == 16) reasons.WrongLength p.1 >>= λ q.
+abbrev pub info_taken : BytesName → Takes (List ℕ)
+info_taken checksum ms =
+    stream_numbers_taken ms >>= λ p. run_if checksum (λ sum. length sum == 16) reasons.WrongLength p.1 >>= λ q.
     Ok (p.0 ++ q.0, q.1)
 
 abbrev pub block_data_taken : ℕ → Takes (List ℕ)
 block_data_taken block_type ms =
     if (block_type == 0) && not (has dfla.BLOCK.now.1.1.1.1.0.now ms)
-    then info_taken dfla.BLOCK.now.1.1.0.now dfla.BLOCK.now.1.1.1.0 ms
+    then info_taken dfla.BLOCK.now.1.1.1.0 ms
     else run_taken dfla.BLOCK.now.1.1.1.1 ms
 
 abbrev make_block : FlacBlockKind → List ℕ → FlacMetadataBlock

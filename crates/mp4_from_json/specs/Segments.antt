@@ -1,7 +1,7 @@
 -- Boxes of segments and metadata whose names depend on their values, as they are taken out of JSON.
 use Rattle.std.specs.Prelude.{ℕ, ℤ, pos, int_le, ◌+◌, ◌-◌, ◌*◌, ◌%◌, ◌^◌, ◌==◌, ◌&&◌}
 use Rattle.std.specs.Prelude.{◌||◌, nat_le, nat_lt, not, Bool, true, false}
-use Rattle.std.specs.Prelude.{List, [], ◌∷◌, ◌++◌, Option, Some, None, if◌then◌else◌, Ok, length}
+use Rattle.std.specs.Prelude.{List, [], ◌∷◌, ◌++◌, Option, Some, None, if◌then◌else◌, Ok, length, map}
 use Rattle.std.specs.Int.{w64, cast_unsigned}
 use Rattle.json.specs.Json.{Json, Members}
 use Rattle.json.specs.Find.{as_str}
@@ -23,11 +23,11 @@ use Rattle.mp4_extra_segments.specs.declared.tfra.Accesses.{Accesses}
 use Rattle.mp4_extra_segments.specs.declared.tfra.Tfra.{Tfra}
 use Rattle.mp4_extra_segments.specs.declared.tfra.TfraLengths.{TfraLengths}
 use Rattle.mp4_extra_segments.specs.declared.tfra.TheConstants as tfra
-use Rattle.mp4_from_json.specs.Numbers.{agrees, at_path, number_taken}
+use Rattle.mp4_from_json.specs.Numbers.{agrees, at_path, number_taken, numbers_taken}
 use Rattle.mp4_from_json.specs.Object.{object_taken, take_out, take_one, has}
 use Rattle.mp4_from_json.specs.Pieces.{pieces_taken}
 use Rattle.mp4_from_json.specs.Runs.{run_taken}
-use Rattle.mp4_from_json.specs.Shapes.{Takes}
+use Rattle.mp4_from_json.specs.Shapes.{Takes, map_taken}
 use Rattle.mp4_from_json.specs.Taking.{Taking, refused, expect, ◌>>=◌}
 use Rattle.mp4_from_json.specs.Values.{hex_in, or_else, signed_in as signed_number, whole_in}
 use Rattle.mp4_from_json.specs.declared.data.Locale.{Locale}
@@ -184,12 +184,18 @@ abbrev pub some_name : List ℕ → Option (List ℕ)
 some_name [] = None
 some_name (c ∷ cs) = Some (c ∷ cs)
 
+-- the name, if it is there, is that of the system with this id
+abbrev pub name_taken : List ℕ → List ℕ → Members → Taking Members
+name_taken name id ms =
+    take_out name ms >>= λ q.
+    expect (agrees (some_name (system_name (frame.number id 0 8) (frame.number id 8 8))) q.0) name
+    reasons.Contradiction >>= λ _. Ok q.1
+
 abbrev pub system_taken : SystemNames → Takes (List ℕ)
 system_taken names ms =
     take_one names.0.now ms >>= λ p. at_path names.0.now (hex_in p.0) >>= λ id.
-    expect (length id == 16) names.0.now reasons.WrongLength >>= λ _. take_out names.1.now p.1 >>= λ q.
-    expect (agrees (some_name (system_name (frame.number id 0 8) (frame.number id 8 8))) q.0) names.1.now
-    reasons.Contradiction >>= λ _. Ok (id, q.1)
+    expect (length id == 16) names.0.now reasons.WrongLength >>= λ _.
+    name_taken names.1.now id p.1 >>= λ rest. Ok (id, rest)
 
 -- ---- tfra: numbers of these widths in bytes
 
@@ -198,13 +204,18 @@ access_widths a =
     time_width a.version ∷ time_width a.version ∷ width_of a.lengths.length_size_of_traf_num
     ∷ width_of a.lengths.length_size_of_trun_num ∷ width_of a.lengths.length_size_of_sample_num ∷ []
 
-abbrev pub numbers_of_widths : List NumberName → List ℕ → Takes (List ℕ)
-numbers_of_widths (f ∷ fs) (w ∷ ws) ms =
-    number_taken f (8 * w) ms >>= λ p. numbers_of_widths fs ws p.1 >>= λ q. Ok (be_bytes w p.0 ++ q.0, q.1)
-numbers_of_widths fs ws ms = Ok ([], ms)
+-- the bytes of numbers of these widths, one after the other
+abbrev pub bytes_of_widths : List ℕ → List ℕ → List ℕ
+bytes_of_widths (w ∷ ws) (n ∷ ns) = be_bytes w n ++ bytes_of_widths ws ns
+bytes_of_widths ws ns = []
+
+abbrev pub access_members : Accesses → Takes (List ℕ)
+access_members a ms =
+    map_taken (bytes_of_widths (access_widths a))
+    (numbers_taken tfra.ACCESS.now (map (λ w. 8 * w) (access_widths a)) ms)
 
 abbrev pub access_taken : Accesses → Json → Taking (List ℕ)
-access_taken a j = object_taken (numbers_of_widths tfra.ACCESS.now (access_widths a)) j
+access_taken a j = object_taken (access_members a) j
 
 -- version, flags, track, sizes and count
 abbrev pub AccessFront : Type 0

@@ -42,6 +42,11 @@ abbrev pub IsRefusal : Error → Fault → Type 0
 IsRefusal errors.OutOfMemory fault = Unit {0}
 IsRefusal (errors.Refused refusal) fault = (string_bytes refusal.path, refusal.reason) ≡ fault
 
+-- an error, and the same one inside of a front; memory may be refused for the longer path
+abbrev pub MovedInto : List ℕ → Error → Error → Type 0
+MovedInto front errors.OutOfMemory e = e ≡ errors.OutOfMemory
+MovedInto front (errors.Refused refusal) e = IsRefusal e (in_path front (string_bytes refusal.path), refusal.reason)
+
 abbrev pub RefusedAs : {A : Type 0} → Error → Taking A → Type 0
 RefusedAs errors.OutOfMemory taking = Unit {0}
 RefusedAs (errors.Refused refusal) taking = taking ≡ Err (string_bytes refusal.path, refusal.reason)

@@ -2,7 +2,8 @@
 use Rattle.std.specs.Prelude.{ℕ, ℤ, pos, neg_ℤ, ◌+◌, ◌-◌, ◌*◌, ◌^◌, ◌==◌, ◌&&◌, ◌||◌, nat_le, nat_lt, not, Bool, List}
 use Rattle.std.specs.Prelude.{[], ◌∷◌, if◌then◌else◌, Option, Some, None, option_and_then, option_map, length, min}
 use Rattle.std.specs.Prelude.{Result, Ok, Err}
-use Rattle.std.specs.Str.{all_ascii_digits}
+use Rattle.std.specs.List.{list_all}
+use Rattle.std.specs.Str.{all_ascii_digits, chars}
 use Rattle.std.specs.Str.Parse.{digits_value, starts_with_minus, without_leading_plus, without_leading_sign}
 use Rattle.std.specs.Str.Parse.{signed_digits_value}
 use Rattle.json.specs.Json.{Json}
@@ -94,33 +95,13 @@ number_in_hex count j = as_one (min count 8) (sized_hex_in (min count 8) j)
 
 -- ---- codes
 
-abbrev pub is_second : ℕ → Bool
-is_second c = nat_le 128 c && nat_lt c 192
-
-abbrev pub before : ℕ → Option (List ℕ) → Option (List ℕ)
-before c rest = option_map (λ cs. c ∷ cs) rest
-
--- the numbers of the characters of a text in UTF-8, if all of them are below 256; the first byte of a character of two
--- bytes may stand before the text
-abbrev pub latin_after : Option ℕ → List ℕ → Option (List ℕ)
-latin_after None [] = Some []
-latin_after (Some c) [] = None
-latin_after None (c ∷ cs) =
-    if nat_lt c 128 then before c (latin_after None cs)
-    else if (c == 194) || (c == 195) then latin_after (Some c) cs else None
-latin_after (Some c) (d ∷ cs) =
-    if is_second d then before ((c - 192) * 64 + (d - 128)) (latin_after None cs) else None
-
-abbrev pub latin_in : List ℕ → Option (List ℕ)
-latin_in s = latin_after None s
-
-abbrev pub four : Option (List ℕ) → Option (List ℕ)
-four (Some cs) = if length cs == 4 then Some cs else None
-four None = None
+-- four characters, each of the number of a byte
+abbrev pub four_bytes : List ℕ → Option (List ℕ)
+four_bytes cs = if (length cs == 4) && list_all (λ c. nat_lt c 256) cs then Some cs else None
 
 -- the four bytes of a code
 abbrev pub code_in : Json → Option (List ℕ)
-code_in j = option_and_then (λ s. four (latin_in s)) (as_str j)
+code_in j = option_and_then (λ s. four_bytes (chars s)) (as_str j)
 
 -- ---- a number by how it is shown
 

@@ -5,7 +5,8 @@ ghost use Rattle.json.specs.Value.{value_view};
 ghost use Rattle.mp4_from_json.specs.Lists.{code_taken};
 ghost use Rattle.mp4_from_json.specs.Object.{left};
 ghost use Rattle.mp4_from_json.specs.Taking.{TakesAs};
-ghost use Rattle.mp4_from_json.specs.Values.{code_in, four, latin_in};
+ghost use Rattle.mp4_from_json.specs.Values.{code_in, four_bytes};
+ghost use Rattle.std.specs.Str.{chars};
 
 use crate::error::{Reason, Result, refuse};
 use crate::object::Object;
@@ -13,43 +14,21 @@ use json::Value;
 use mp4_frame::FourCC;
 use std::alloc::Global;
 
-/// Returns the bytes of the text `text` of which each character has the number of one byte. Returns `None` if a
-/// character has a number above 255, or they aren't four.
+/// Returns the numbers of the characters of `text`, which have to be four below 256. Returns `None` if they aren't.
 pub fn latin_in(text: &str) -> Option<[u8; 4]>
-    ensures { result ≡ four (latin_in text.now) }
+    ensures { result ≡ four_bytes (chars text.now) }
 {
     let mut value = [0; 4];
     let mut count = 0;
-    // The first byte of a character of two bytes, or 0.
-    let mut first: u8 = 0;
-    for byte in text.as_bytes() {
-        let byte = *byte;
-        if first == 0 && (byte == 194 || byte == 195) {
-            first = byte;
-            continue;
-        }
-        let number = if first == 0 {
-            byte
-        } else {
-            64 * (first - 192) + byte % 64
-        };
-        let is_whole = if first == 0 {
-            byte < 128
-        } else {
-            128 <= byte && byte < 192
-        };
-        if !is_whole || count == 4 {
+    for c in text.chars() {
+        let number = u32::from(c);
+        if count == 4 || number >= 256 {
             return None;
         }
-        value[count] = number;
+        value[count] = number as u8;
         count += 1;
-        first = 0;
     }
-    if count == 4 && first == 0 {
-        Some(value)
-    } else {
-        None
-    }
+    if count == 4 { Some(value) } else { None }
 }
 
 /// Returns the code that `value` is: a text of four characters, each of the number of its byte.

@@ -1,13 +1,13 @@
 //! The colour information box.
 
 ghost use Rattle.mp4_extra_media.specs.declared.colr.TheConstants as colr;
-ghost use Rattle.mp4_from_json.specs.Media.{colour_bytes, colr_taken, first_three, hex_taken, words_taken};
+ghost use Rattle.mp4_from_json.specs.Media.{colour_bytes, colr_taken, hex_taken, nclc_taken};
 ghost use Rattle.mp4_from_json.specs.Object.{left};
 ghost use Rattle.mp4_from_json.specs.Shapes.{layout_taken};
 ghost use Rattle.mp4_from_json.specs.Taking.{TakesAs};
 
 use crate::big_endian::push_number;
-use crate::{Object, Result, TakeFields, hex_in, take_code, take_number, take_numbers};
+use crate::{Object, Result, TakeFields, hex_in, take_code, take_numbers};
 use mp4_declared::{EntryLayout, OfType};
 use mp4_extra_media::colr::{self, Colr, NCLC, NCLX, Nclx, PROF, RICC};
 use mp4_frame::Entries;
@@ -34,14 +34,18 @@ fn take_hex(alloc: Global, name: &str, object: &mut Object<'_>) -> Result<Entrie
 /// Takes the three numbers of an `nclc` out.
 fn take_nclc(alloc: Global, object: &mut Object<'_>) -> Result<Entries<u8>>
     ensures { TakesAs (λ bytes. (bytes, left object.new)) result
-        (words_taken (first_three colr.NAMES.1.0.now) 2 (left object.old)) }
+        (nclc_taken (left object.old)) }
 {
-    let names = colr::NAMES.1.0;
+    let [primaries, transfer, matrix] = take_numbers(
+        alloc,
+        colr::NAMES.1.0,
+        &[16, 16, 16],
+        object,
+    )?;
     let mut bytes = Vec::new(alloc);
-    for k in 0..names.len().min(3) {
-        let number = take_number(alloc, names[k], 16, object)?;
-        push_number(number, 2, &mut bytes)?;
-    }
+    push_number(primaries, 2, &mut bytes)?;
+    push_number(transfer, 2, &mut bytes)?;
+    push_number(matrix, 2, &mut bytes)?;
     Ok(bytes.into())
 }
 

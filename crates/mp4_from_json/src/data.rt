@@ -17,8 +17,9 @@ use crate::{
 };
 use json::Value;
 use mp4_declared::{U8, U24};
-use mp4_extra_segments::data::{self, Data, signed_width, unsigned_width};
+use mp4_extra_segments::data::{self, Data, signed_in, signed_width, unsigned_width};
 use mp4_frame::Entries;
+use mp4_shown::number_at;
 use std::alloc::Global;
 
 /// The two letters of a country, or the three of a language.
@@ -94,15 +95,10 @@ fn number_of(signed: bool, bytes: &[u8]) -> i128
     requires { IsTrue (is_width (length bytes.now)) }
     ensures { result ≡ number_in signed bytes.now }
 {
-    let mut number: i128 = 0;
-    for byte in bytes {
-        number = (number * 256 + i128::from(*byte)) % (1 << 64);
-    }
-    let bits = 8 * bytes.len().min(8) as u32;
-    if signed && bits > 0 && number >= 1 << (bits - 1) {
-        number - (1 << bits)
+    if signed {
+        i128::from(signed_in(bytes))
     } else {
-        number
+        i128::from(number_at(bytes, 0, bytes.len()))
     }
 }
 
@@ -169,7 +165,8 @@ fn number_bytes(
 /// Takes a number and its bytes out, of which one may be absent. Returns its bytes.
 fn take_number_bytes(alloc: Global, signed: bool, object: &mut Object<'_>) -> Result<Entries<u8>>
     ensures { TakesAs (λ bytes. (bytes, left object.new)) result
-        (number_taken_by signed data_box.NAMES.now.1.1.1.1.1.0.now data_box.NAMES.now.1.1.1.1.1.1.0.0.now (left object.old)) }
+        (number_taken_by signed data_box.NAMES.now.1.1.1.1.1.0.now data_box.NAMES.now.1.1.1.1.1.1.0.0.now
+        (left object.old)) }
 {
     let (_, (name, (number_hex, _))) = data::NAMES.1.1.1.1;
     let value = object.take_out(alloc, name)?;

@@ -50,22 +50,37 @@ fn exponent_of(text: &[u8]) -> u32
     number
 }
 
+/// Returns `base`^`count`.
+fn power(base: u128, count: u32) -> u128
+    requires small { base ≤ 10 }
+    requires short { count ≤ 37 }
+    ensures { result ≡ base ^ count }
+{
+    let mut power: u128 = 1;
+    for _ in 0..count {
+        power *= base;
+    }
+    power
+}
+
+/// Returns `number`, or `None` if it has more than 37 digits.
+fn few_digits(number: u128) -> Option<u128>
+    ensures { result ≡ few_digits number }
+{
+    if number < MOST { Some(number) } else { None }
+}
+
 /// Returns `number` with `count` zeros after it, or `None` if it gets more than 37 digits.
 fn with_zeros(number: u128, count: u32) -> Option<u128>
-    requires { number < 10 ^ 37 }
     ensures { result ≡ few_digits (number * 10 ^ count) }
 {
     if number == 0 {
         return Some(0);
     }
-    let mut number = number;
-    for _ in 0..count {
-        if number >= MOST / 10 {
-            return None;
-        }
-        number *= 10;
+    if count > 37 {
+        return None;
     }
-    Some(number)
+    few_digits(number.checked_mul(power(10, count))?)
 }
 
 /// Returns the decimal that `text` is, or `None` if it is none, or has too many digits.
@@ -97,18 +112,6 @@ pub(crate) fn decimal_in(text: &str) -> Option<Decimal>
     })
 }
 
-/// Returns 5^`count`.
-fn five_to(count: u32) -> u128
-    requires { count ≤ 37 }
-    ensures { result ≡ 5 ^ count }
-{
-    let mut power: u128 = 1;
-    for _ in 0..count {
-        power *= 5;
-    }
-    power
-}
-
 /// Returns the number of `bits` after the point that is nearest to `decimal` without its sign, or `None` if it is 2^56
 /// or more.
 pub(crate) fn fixed_bits(decimal: Decimal, bits: u32) -> Option<u64>
@@ -121,9 +124,9 @@ pub(crate) fn fixed_bits(decimal: Decimal, bits: u32) -> Option<u64>
         if decimal.digits >> (126 - shift) > 0 {
             return None;
         }
-        (decimal.digits << shift, five_to(places))
+        (decimal.digits << shift, power(5, places))
     } else {
-        (decimal.digits, five_to(places) << (places - bits))
+        (decimal.digits, power(5, places) << (places - bits))
     };
     let number = (2 * dividend + divisor) / (2 * divisor);
     if number < 1 << 56 {

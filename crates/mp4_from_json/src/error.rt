@@ -1,7 +1,7 @@
 //! Why the JSON of a box is refused.
 
 ghost use Rattle.std.specs.Prelude.{◌≡◌, ◌∷◌, ◌++◌, IfOk, Some, decimal, string_bytes};
-ghost use Rattle.mp4_from_json.specs.Taking.{Fault, IsRefusal, entry_path, in_path};
+ghost use Rattle.mp4_from_json.specs.Taking.{IsRefusal, MovedInto, entry_path, in_path};
 ghost use Rattle.mp4_from_json.specs.Messages.{reason_text};
 ghost use Rattle.mp4_from_json.specs.declared.error.Error.TheVariants.{OutOfMemory};
 
@@ -173,8 +173,7 @@ fn path_in_group(alloc: Global, name: &str, path: &str) -> std::result::Result<S
 impl Error {
     /// Returns the error with the path inside of the entry `index` of the list `name`.
     pub fn in_entry(self, alloc: Global, name: &str, index: usize) -> Error
-        ensures { (fault : Fault) → IsRefusal self fault
-            → IsRefusal result (in_path (entry_path name.now index) fault.0, fault.1) }
+        ensures { MovedInto (entry_path name.now index) self result }
     {
         match self {
             Error::OutOfMemory => Error::OutOfMemory,
@@ -189,7 +188,7 @@ impl Error {
 
     /// Returns the error with the path inside of the group `name`.
     pub fn in_group(self, alloc: Global, name: &str) -> Error
-        ensures { (fault : Fault) → IsRefusal self fault → IsRefusal result (in_path name.now fault.0, fault.1) }
+        ensures { MovedInto name.now self result }
     {
         match self {
             Error::OutOfMemory => Error::OutOfMemory,

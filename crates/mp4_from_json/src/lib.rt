@@ -1,5 +1,5 @@
-//! For programs that make boxes of their JSON: takes the fields of a box out of a JSON object. What is taken follows
-//! from the shape of the box and the names of its fields, as what `mp4_shown` shows does.
+//! For programs that edit boxes: reads a box back from its JSON. The shape of the box and the names of its fields say
+//! what is taken out of a JSON object, as they say what `mp4_shown` shows of the box.
 #![tactic(auto)]
 
 mod av1c;

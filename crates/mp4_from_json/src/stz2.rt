@@ -50,13 +50,11 @@ fn push_halves(
     requires fit { All (λ size. size < 16) sizes.now }
     ensures { OnOk result (bytes.new.items ≡ bytes.old.items ++ halves padding sizes.now) }
 {
-    for pair in sizes.chunks(2) {
-        let second = if pair.len() == 2 {
-            pair[1] as u8
-        } else {
-            padding
-        };
-        bytes.push(pair[0] as u8 * 16 + second)?;
+    for k in 0..sizes.len() / 2 {
+        bytes.push(sizes[2 * k] as u8 * 16 + sizes[2 * k + 1] as u8)?;
+    }
+    if sizes.len() % 2 == 1 {
+        bytes.push(sizes[sizes.len() - 1] as u8 * 16 + padding)?;
     }
     Ok(())
 }

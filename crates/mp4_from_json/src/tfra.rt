@@ -1,15 +1,18 @@
 //! The track fragment random access box.
 
+ghost use Rattle.std.specs.Prelude.{◌≡◌, ◌≤◌};
+ghost use Rattle.mp4_declared.specs.Shape.{time_width};
+ghost use Rattle.mp4_extra_segments.specs.ShownAccesses.{width_of};
 ghost use Rattle.mp4_declared.specs.OwnBox.{no_context};
 ghost use Rattle.mp4_extra_segments.specs.declared.tfra.TheConstants as tfra;
 ghost use Rattle.mp4_from_json.specs.Object.{left};
-ghost use Rattle.mp4_from_json.specs.Segments.{access_taken, access_widths, numbers_of_widths, tfra_taken};
+ghost use Rattle.mp4_from_json.specs.Segments.{access_members, access_taken, tfra_taken};
 ghost use Rattle.mp4_from_json.specs.Taking.{TakesAs};
 
 use crate::big_endian::push_number;
 use crate::{
     NO_CONTEXT, Object, Result, TakeFields, TakePieces, TakeShape, end_object, object_in,
-    take_number, take_pieces,
+    take_numbers, take_pieces,
 };
 use json::Value;
 use mp4_declared::{Bits, Full, Last, U32};
@@ -20,31 +23,39 @@ use std::alloc::Global;
 /// The fields before the entries.
 type Front = Full<2, (U32, Bits<TfraLengths, 4, 4>, Last<U32>)>;
 
-/// Returns the numbers of bytes of the numbers of an entry.
-fn widths_of(accesses: &Accesses) -> [u32; 5] {
-    let time = if accesses.version == 0 { 4 } else { 8 };
-    let lengths = accesses.lengths;
-    [
-        time,
-        time,
-        u32::from(lengths.length_size_of_traf_num % 4) + 1,
-        u32::from(lengths.length_size_of_trun_num % 4) + 1,
-        u32::from(lengths.length_size_of_sample_num % 4) + 1,
-    ]
+/// Returns the number of bytes of a time in `version`.
+fn time_width(version: u8) -> u8
+    ensures value { result ≡ time_width version }
+    ensures few { result ≤ 8 }
+{
+    if version == 0 { 4 } else { 8 }
+}
+
+/// Returns the number of bytes of a number with this `length`, which is kept minus one in two bits.
+fn width_of(length: u8) -> u8
+    ensures value { result ≡ width_of length }
+    ensures few { result ≤ 4 }
+{
+    length % 4 + 1
 }
 
 /// Takes the numbers of an entry out, and returns its bytes.
 fn take_access(alloc: Global, accesses: &Accesses, object: &mut Object<'_>) -> Result<Vec<u8>>
     ensures { TakesAs (λ bytes. (bytes.items, left object.new)) result
-        (numbers_of_widths tfra.ACCESS.now (access_widths accesses.now) (left object.old)) }
+        (access_members accesses.now (left object.old)) }
 {
-    let widths = widths_of(accesses);
+    let time = time_width(accesses.version);
+    let traf = width_of(accesses.lengths.length_size_of_traf_num);
+    let trun = width_of(accesses.lengths.length_size_of_trun_num);
+    let sample = width_of(accesses.lengths.length_size_of_sample_num);
+    let widths = [8 * time, 8 * time, 8 * traf, 8 * trun, 8 * sample];
+    let numbers = take_numbers(alloc, ACCESS, &widths, object)?;
     let mut bytes = Vec::new(alloc);
-    for k in 0..ACCESS.len().min(5) {
-        let width = widths[k].min(8);
-        let number = take_number(alloc, ACCESS[k], 8 * width, object)?;
-        push_number(number, width as usize, &mut bytes)?;
-    }
+    push_number(numbers[0], usize::from(time), &mut bytes)?;
+    push_number(numbers[1], usize::from(time), &mut bytes)?;
+    push_number(numbers[2], usize::from(traf), &mut bytes)?;
+    push_number(numbers[3], usize::from(trun), &mut bytes)?;
+    push_number(numbers[4], usize::from(sample), &mut bytes)?;
     Ok(bytes)
 }
 
@@ -60,9 +71,16 @@ impl TakePieces for Accesses {
 }
 
 impl TakeFields for Tfra {
-    ghost taken = { tfra_taken (⟦<Front as TakeShape>⟧.taken
-        (tfra.NAMES.now.0, (tfra.NAMES.now.1.0, (tfra.NAMES.now.1.1.0, (tfra.NAMES.now.1.1.1.0, (tfra.NAMES.now.1.1.1.1.0, tt)))))
-        no_context) };
+    ghost taken = { tfra_taken (⟦<Front as TakeShape>⟧.taken (
+      tfra.NAMES.now.0,
+      (
+        tfra.NAMES.now.1.0,
+        (
+          tfra.NAMES.now.1.1.0,
+          (tfra.NAMES.now.1.1.1.0, (tfra.NAMES.now.1.1.1.1.0, tt)),
+        ),
+      ),
+    ) no_context) };
 
     fn take(alloc: Global, object: &mut Object<'_>) -> Result<Tfra> {
         let names = (

@@ -22,7 +22,8 @@ pub(crate) fn take_all<S: TakeShape>(
     context: Context,
     object: &mut Object<'_>,
 ) -> Result<S::Taken>
-    ensures { TakesAs (λ v. v) result (all_of (S.TakeShape.taken (S.TakeShape.known names.now) context) (left object.old)) }
+    ensures { TakesAs (λ v. v) result
+        (all_of (S.TakeShape.taken (S.TakeShape.known names.now) context) (left object.old)) }
 {
     let taken = S::take(alloc, names, context, object)?;
     end_object(alloc, object)?;

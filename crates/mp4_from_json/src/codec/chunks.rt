@@ -6,8 +6,8 @@ ghost use Rattle.mp4_declared.specs.OwnBox.{no_context};
 ghost use Rattle.mp4_from_json.specs.declared.codec.chunks.TheConstants.{STSC};
 ghost use Rattle.mp4_shown.specs.Event.{Text as SeenText, seen_text};
 ghost use Rattle.mp4_tables.specs.Chunks.{next_sample};
-ghost use Rattle.mp4_from_json.specs.CodecTables.{agrees_with, chunk_members, chunk_taken, make_stsc, numbered_runs};
-ghost use Rattle.mp4_from_json.specs.CodecTables.{first_taken, firsts_in, runs_taken};
+ghost use Rattle.mp4_from_json.specs.CodecTables.{agrees_with, chunk_members, chunk_taken, entries_of, make_stsc};
+ghost use Rattle.mp4_from_json.specs.CodecTables.{first_taken, firsts_agree, numbered_runs, runs_taken};
 ghost use Rattle.mp4_from_json.specs.Object.{left};
 ghost use Rattle.mp4_from_json.specs.Shapes.{made_of};
 ghost use Rattle.mp4_from_json.specs.Taking.{TakesAs};
@@ -108,11 +108,12 @@ fn agrees_with(sample: u32, given: Option<u32>) -> bool
     }
 }
 
-/// Returns the first samples of `runs`, or `None` if one can't be computed.
-fn firsts_of(alloc: Global, runs: &[ChunkRun]) -> Result<Option<Vec<u32>>>
-    ensures { TakesAs (λ firsts. option_map (λ found. found.items) firsts) result (Ok (firsts_in runs.now)) }
+/// Returns the entries of `runs` with their first samples, or `None` if one of these doesn't fit 32 bits, or if a first
+/// chunk is below the one before it.
+fn numbered_entries(alloc: Global, runs: &[ChunkRun]) -> Result<Option<Vec<StscEntry>>>
+    ensures { TakesAs (λ entries. option_map (λ found. found.items) entries) result (Ok (entries_of runs.now)) }
 {
-    let mut firsts = Vec::new(alloc);
+    let mut entries = Vec::new(alloc);
     let mut sample = 1;
     let mut chunk = match runs.first() {
         Some(run) => run.0.first_chunk,
@@ -120,15 +121,30 @@ fn firsts_of(alloc: Global, runs: &[ChunkRun]) -> Result<Option<Vec<u32>>>
     };
     let mut samples = 0;
     for run in runs {
-        let Some(next) = next_sample(sample, chunk, samples, run.0.first_chunk) else {
+        let mut entry = run.0;
+        let Some(next) = next_sample(sample, chunk, samples, entry.first_chunk) else {
             return Ok(None);
         };
-        firsts.push(next)?;
+        entry.first_sample = next;
+        entries.push(entry)?;
         sample = next;
-        chunk = run.0.first_chunk;
-        samples = run.0.samples_per_chunk;
+        chunk = entry.first_chunk;
+        samples = entry.samples_per_chunk;
     }
-    Ok(Some(firsts))
+    Ok(Some(entries))
+}
+
+/// Refuses a first sample of `runs` that doesn't follow. The entries of the list `name` have those that follow.
+fn check_firsts(alloc: Global, name: &str, entries: &[StscEntry], runs: &[ChunkRun]) -> Result<()>
+    ensures { TakesAs (λ v. v) result (firsts_agree name.now 0 entries.now runs.now) }
+{
+    for index in 0..entries.len().min(runs.len()) {
+        if !agrees_with(entries[index].first_sample, runs[index].1) {
+            let error = refuse(alloc, FIRST_SAMPLE.0, Reason::Contradiction);
+            return Err(error.in_entry(alloc, name, index));
+        }
+    }
+    Ok(())
 }
 
 /// Returns the entries of `runs` of the list `name` with their first samples. Refuses a first sample that doesn't
@@ -136,19 +152,10 @@ fn firsts_of(alloc: Global, runs: &[ChunkRun]) -> Result<Option<Vec<u32>>>
 fn numbered_runs(alloc: Global, name: &str, runs: &[ChunkRun]) -> Result<Entries<StscEntry>>
     ensures { TakesAs (λ entries. entries) result (numbered_runs name.now runs.now) }
 {
-    let Some(firsts) = firsts_of(alloc, runs)? else {
+    let Some(entries) = numbered_entries(alloc, runs)? else {
         return Err(refuse(alloc, name, Reason::OutOfRange));
     };
-    let mut entries = Vec::new(alloc);
-    for index in 0..runs.len().min(firsts.len()) {
-        let (mut entry, given) = runs[index];
-        if !agrees_with(firsts[index], given) {
-            let error = refuse(alloc, FIRST_SAMPLE.0, Reason::Contradiction);
-            return Err(error.in_entry(alloc, name, index));
-        }
-        entry.first_sample = firsts[index];
-        entries.push(entry)?;
-    }
+    check_firsts(alloc, name, entries.as_slice(), runs)?;
     Ok(entries.into())
 }
 

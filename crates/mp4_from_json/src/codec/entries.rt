@@ -1,7 +1,8 @@
 //! Sample entries of video and subtitles, and what configures their decoders.
 
 ghost use Rattle.mp4_declared.specs.OwnBox.{no_context};
-ghost use Rattle.mp4_from_json.specs.declared.codec.entries.TheConstants.{AVC1, AVCC, COLOR, HEV1, HVCC, TX3G, VP09, VP09_REST, VPCC, VPCC_REST};
+ghost use Rattle.mp4_from_json.specs.declared.codec.entries.TheConstants.{AVC1, AVCC, COLOR, HEV1, HVCC, TX3G, VP09};
+ghost use Rattle.mp4_from_json.specs.declared.codec.entries.TheConstants.{VP09_REST, VPCC, VPCC_REST};
 ghost use Rattle.mp4_from_json.specs.CodecEntries.{avcc_taken, make_avc1, make_color, make_hev1, make_hvcc, make_tx3g};
 ghost use Rattle.mp4_from_json.specs.CodecEntries.{make_vp09, make_vpcc, nal_taken};
 ghost use Rattle.mp4_from_json.specs.Shapes.{made_of, pair_taken};

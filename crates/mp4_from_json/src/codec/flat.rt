@@ -1,7 +1,8 @@
 //! Boxes of fixed fields.
 
 ghost use Rattle.mp4_declared.specs.OwnBox.{no_context};
-ghost use Rattle.mp4_from_json.specs.declared.codec.flat.TheConstants.{MDHD, MEHD, MFHD, MVHD, SMHD, TFDT, TKHD, TKHD_REST, TREX, VMHD};
+ghost use Rattle.mp4_from_json.specs.declared.codec.flat.TheConstants.{MDHD, MEHD, MFHD, MVHD, SMHD, TFDT, TKHD};
+ghost use Rattle.mp4_from_json.specs.declared.codec.flat.TheConstants.{TKHD_REST, TREX, VMHD};
 ghost use Rattle.mp4_from_json.specs.CodecFlat.{make_mdhd, make_mehd, make_mfhd, make_mvhd, make_smhd, make_tfdt};
 ghost use Rattle.mp4_from_json.specs.CodecFlat.{make_tkhd, make_trex, make_vmhd};
 ghost use Rattle.mp4_from_json.specs.Shapes.{made_of, pair_taken};

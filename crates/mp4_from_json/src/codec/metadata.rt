@@ -1,47 +1,26 @@
 //! The metadata value box of the codec.
 
-ghost use Rattle.std.specs.Prelude.{◌≡◌, ◌≤◌, option_map};
+ghost use Rattle.std.specs.Prelude.{◌≡◌, option_map};
 ghost use Rattle.json.specs.Value.{value_view};
-ghost use Rattle.mp4_show.specs.Metadata.{integer};
 ghost use Rattle.mp4_from_json.specs.CodecText.{data_box_taken, digits_taken, integer_by, integer_if, integer_in};
-ghost use Rattle.mp4_from_json.specs.CodecText.{integer_taken, integer_width, is_integer, type_or_refused, value_taken};
+ghost use Rattle.mp4_from_json.specs.CodecText.{integer_taken, is_integer, type_or_refused, value_taken};
 ghost use Rattle.mp4_from_json.specs.Object.{left};
 ghost use Rattle.mp4_from_json.specs.Taking.{TakesAs};
 
 use crate::big_endian::push_number;
 use crate::{Object, Reason, Result, TakeFields, hex_in, refuse, take_number, take_text};
 use json::Value;
-use mp4_frame::{i8_at, i16_at, i32_at};
 use mp4_media::DataType;
-use mp4_shown::{Meaning, NumberName, number};
+use mp4_show::{DATA_TYPES, integer, integer_width};
+use mp4_shown::{NumberName, number};
 use mp4_text::DataBox;
 use std::alloc::Global;
 
 /// The name of a value that is bytes.
 const BYTES: &str = "data_bytes";
 
-/// The meanings of the types of a value.
-const DATA_TYPES: &[Meaning] = &[
-    (0, "binary"),
-    (1, "text"),
-    (13, "JPEG"),
-    (21, "signed integer"),
-];
-
 /// The name of the type of a value.
 const DATA_TYPE: NumberName = number!("data_type", Named, DATA_TYPES);
-
-/// Returns the signed number in 1, 2 or 4 bytes.
-fn integer(bytes: &[u8]) -> Option<i64>
-    ensures { result ≡ integer bytes.now }
-{
-    match bytes.len() {
-        1 => Some(i64::from(i8_at(bytes, 0))),
-        2 => Some(i64::from(i16_at(bytes, 0))),
-        4 => Some(i64::from(i32_at(bytes, 0))),
-        _ => None,
-    }
-}
 
 /// Returns the type with this `number`. Another number is refused.
 fn type_of(alloc: Global, number: u64) -> Result<DataType>
@@ -95,20 +74,6 @@ fn is_integer(number: Option<i64>, in_bytes: Option<i64>) -> bool
         (Some(number), Some(other)) => number == other,
         (Some(_), None) => false,
         (None, _) => true,
-    }
-}
-
-/// Returns the least of 1, 2 and 4 bytes that have room for `number`.
-fn integer_width(number: i64) -> usize
-    ensures value { result ≡ integer_width number }
-    ensures few { result ≤ 4 }
-{
-    if -(1 << 7) <= number && number <= (1 << 7) - 1 {
-        1
-    } else if -(1 << 15) <= number && number <= (1 << 15) - 1 {
-        2
-    } else {
-        4
     }
 }
 

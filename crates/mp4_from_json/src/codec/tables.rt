@@ -2,7 +2,8 @@
 
 ghost use Rattle.std.specs.Prelude.{◌≡◌, length};
 ghost use Rattle.mp4_declared.specs.OwnBox.{no_context};
-ghost use Rattle.mp4_from_json.specs.declared.codec.tables.TheConstants.{CO64, CTTS, DELTA, EDIT, ELST, OFFSET, STCO, STSS, STSZ, STTS};
+ghost use Rattle.mp4_from_json.specs.declared.codec.tables.TheConstants.{CO64, CTTS, DELTA, EDIT, ELST, OFFSET, STCO};
+ghost use Rattle.mp4_from_json.specs.declared.codec.tables.TheConstants.{STSS, STSZ, STTS};
 ghost use Rattle.mp4_shown.specs.Event.{Text as SeenText, seen_text};
 ghost use Rattle.mp4_shown.specs.Numbers.{NumberName as SeenName, seen_number};
 ghost use Rattle.mp4_from_json.specs.CodecTables.{edit_bits, edit_time_taken, least_edit, make_co64, make_ctts};
