@@ -23,3 +23,11 @@ pub mod CodecText
 pub mod CodecEntries
 pub mod CodecSound
 pub mod Codec
+pub mod Shown
+pub mod ShownLaws
+pub mod Back
+pub mod BackNumbers
+pub mod BackRuns
+pub mod BackLists
+pub mod BackItems
+pub mod BackShapes
