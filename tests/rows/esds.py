@@ -1,13 +1,14 @@
 """`esds`, the descriptors of an elementary stream: lengths in every form, wrong lengths, audio configurations, cuts and
-sizes. The headers of descriptors that are read are counted. In `COUNTED` the bytes of the fields count up from 0x81,
-except those of an audio configuration, whose fields are some of their bits."""
+sizes. The codec's own box keeps some descriptors, and the headers of those that it reads are counted. The declared box
+keeps all. In `COUNTED` and `WHOLE` the bytes of the fields count up from 0x81, except those whose fields are some of
+their bits."""
 
 from tests.rows.entry_values import (
     AUDIO_CONFIGURATIONS, ESDS, ESDS_VALUE, config, esds, esds_bytes, esds_bytes_of, esds_of, specific,
 )
 from tests.rows.making import (
-    END, LARGEST, PAST_64_BITS, box, changed, counting, fields, full, invalid, large, one, resized, round_trip, u8, u16,
-    u24, u32, written_as,
+    END, LARGEST, NO_VERSION_1, PAST_64_BITS, TOO_MANY_BYTES, WRONG_SIZE, Box, box, changed, counting, declared,
+    declared_as, fields, full, invalid, large, one, resized, round_trip, u8, u16, u24, u32, written_as,
 )
 
 NOT_FOUND = invalid("ESDescriptor not found")
@@ -358,23 +359,223 @@ def every_other_tag_ends_the_streams():
             yield one(esds_bytes(stream(1), bytes([tag, 0]), stream(2)), esds(1), headers=2)
 
 
-def fields_of_descriptors():
-    """ISO/IEC 14496-14, 5.6."""
-    # Has the stream type 5 in six bits, the direction 1 in one, and then a bit of 1.
-    decoder = u8(4, 0x17) + u24(7) + u32(8, 9)
-    # Has the bits 01010 1111, 13 in 24 bits, 1100 and three of padding; and 01010 1011 1100 and three of padding.
-    for content, specific_fields in [
-        (b"\x57\x80\x00\x06\xe0", {
-            "audioObjectType": 10, "samplingFrequencyIndex": 15, "samplingFrequency": 13, "channelConfiguration": 12,
-        }),
-        (b"\x55\xe0", {"audioObjectType": 10, "samplingFrequencyIndex": 11, "channelConfiguration": 12}),
+def configuration(kind, content, *after, stream=0x17):
+    """Returns an `esds` with this object type and these bytes of the decoder, and the fields before its configuration.
+    The stream type is 5 in six bits, before the direction 1 and a bit of 1."""
+    inside = u8(5, len(content)) + content if content is not None else b""
+    inner = u8(4, 13 + len(inside)) + u8(kind, stream) + u24(7) + u32(8, 9) + inside
+    return full(b"esds", u8(3, 3 + len(inner) + 3), u16(3), u8(0x0B), inner, u8(6, 1, 2), *after)
+
+
+def shown(kind, kind_name, content, **audio):
+    """Returns the fields of `configuration`."""
+    names = {} if kind_name is None else {"objectTypeIndication_name": kind_name}
+    decoder = [] if content is None else [{"tag": 5, "tag_name": "DecoderSpecificInfo", "data_bytes": content.hex()}]
+    return {
+        "version": 0, "flags": 0, "ES_ID": 3, "streamDependenceFlag": 0, "URL_Flag": 0, "OCRstreamFlag": 0,
+        "streamPriority": 11, "decConfigDescr": {
+            "objectTypeIndication": kind, **names, "streamType": 5, "streamType_name": "audio", "upStream": 1,
+            "bufferSizeDB": 7, "maxBitrate": 8, "avgBitrate": 9, **({"AudioSpecificConfig": audio} if audio else {}),
+        }, "decoder_descriptors": decoder, "descriptors": [
+            {"tag": 6, "tag_name": "SLConfigDescriptor", "predefined": 2, "predefined_name": "MP4 file"}],
+    }
+
+
+def fields_of_audio():
+    """ISO/IEC 14496-3, 1.6.2.1."""
+    for content, audio in [
+        # 01010 1111, 13 in 24 bits, 1100 and three of padding.
+        ("57800006e0", {"audioObjectType": 10, "samplingFrequencyIndex": 15, "samplingFrequency": 13,
+                         "channelConfiguration": 12}),
+        # 01010 1011 1100 and three of padding.
+        ("55e0", {"audioObjectType": 10, "samplingFrequencyIndex": 11, "samplingFrequency": 8000,
+                  "channelConfiguration": 12}),
+        # 00010 0011 0010 000.
+        ("1190", {"audioObjectType": 2, "audioObjectType_name": "AAC LC", "samplingFrequencyIndex": 3,
+                  "samplingFrequency": 48000, "channelConfiguration": 2, "channelConfiguration_name": "stereo"}),
+        # 00010 0111 0010 000, then 01010110111 00101 1 0100, then 10101001000 1.
+        ("139056e5a54880", {
+            "audioObjectType": 2, "audioObjectType_name": "AAC LC", "samplingFrequencyIndex": 7,
+            "samplingFrequency": 22050, "channelConfiguration": 2, "channelConfiguration_name": "stereo",
+            "extensionAudioObjectType": 5, "sbrPresentFlag": 1, "psPresentFlag": 1,
+            "extensionSamplingFrequencyIndex": 4, "extensionSamplingFrequency": 44100}),
+        # 00010 0111 0010 000, then 01010110111 00101 0.
+        ("139056e500", {
+            "audioObjectType": 2, "audioObjectType_name": "AAC LC", "samplingFrequencyIndex": 7,
+            "samplingFrequency": 22050, "channelConfiguration": 2, "channelConfiguration_name": "stereo",
+            "extensionAudioObjectType": 5, "sbrPresentFlag": 0}),
+        # 00101 0111 0010 0100 00010 000: SBR before the coding that it extends.
+        ("2b920800", {
+            "audioObjectType": 2, "audioObjectType_name": "AAC LC", "samplingFrequencyIndex": 7,
+            "samplingFrequency": 22050, "channelConfiguration": 2, "channelConfiguration_name": "stereo",
+            "extensionAudioObjectType": 5, "sbrPresentFlag": 1, "extensionSamplingFrequencyIndex": 4,
+            "extensionSamplingFrequency": 44100}),
+        # 11101 0111 0001 0100 00010 000: PS, with one channel.
+        ("eb8a0800", {
+            "audioObjectType": 2, "audioObjectType_name": "AAC LC", "samplingFrequencyIndex": 7,
+            "samplingFrequency": 22050, "channelConfiguration": 1, "channelConfiguration_name": "mono",
+            "extensionAudioObjectType": 5, "sbrPresentFlag": 1, "psPresentFlag": 1,
+            "extensionSamplingFrequencyIndex": 4, "extensionSamplingFrequency": 44100}),
     ]:
-        n = len(content)
-        inner = u8(4, 15 + n) + decoder + u8(5, n) + content
-        yield fields(
-            full(b"esds", u8(3, 23 + n), u16(3), u8(0), inner, u8(6, 1, 2), version=1, flags=2), version=1, flags=2,
-            ES={"ES_ID": 3, "decConfigDescr": {
-                "objectTypeIndication": 4, "streamType": 5, "upStream": 2, "bufferSizeDB": 7, "maxBitrate": 8,
-                "avgBitrate": 9, "decSpecificInfo": specific_fields,
-            }},
-        )
+        content = bytes.fromhex(content)
+        yield fields(configuration(0x40, content), **shown(0x40, "MPEG-4 Audio", content, **audio))
+
+
+def fields_of_other_decoders():
+    """ISO/IEC 14496-1, 7.2.6.6.2: only MPEG-4 audio has such a configuration."""
+    for kind, name in ((0x6B, "MPEG-1 Audio"), (0xDD, "Vorbis"), (0x67, "MPEG-2 AAC LC"), (0x04, None)):
+        for content in (b"\x11\x90", None):
+            yield fields(configuration(kind, content), **shown(kind, name, content))
+    yield fields(configuration(0x40, None), **shown(0x40, "MPEG-4 Audio", None))
+    # Has a byte too few for a configuration.
+    yield fields(configuration(0x40, b"\x11"), **shown(0x40, "MPEG-4 Audio", b"\x11"))
+    yield fields(configuration(0x40, b"\x11\x90", b"\xab"), **shown(
+        0x40, "MPEG-4 Audio", b"\x11\x90", audioObjectType=2, audioObjectType_name="AAC LC", samplingFrequencyIndex=3,
+        samplingFrequency=48000, channelConfiguration=2, channelConfiguration_name="stereo"), data_bytes="ab")
+
+
+def fields_of_streams():
+    """ISO/IEC 14496-1, 7.2.6.5: what the three flags say is present. Sizes in four bytes and in two."""
+    inner = b"\4\x80\x0d" + u8(0x20, 0x10) + u24(7) + u32(8, 9)
+    after = u16(0x8485) + u8(0xEB) + u16(0x8687) + b"\2ab" + u16(0x8889) + inner
+    yield fields(
+        full(b"esds", b"\3\x80\x80\x80" + u8(len(after)), after), version=0, flags=0, ES_Descriptor_size_bytes=4,
+        ES_ID=0x8485, streamDependenceFlag=1, URL_Flag=1, OCRstreamFlag=1, streamPriority=11, dependsOn_ES_ID=0x8687,
+        URLstring="ab", OCR_ES_Id=0x8889, decConfigDescr={
+            "size_bytes": 2, "objectTypeIndication": 0x20, "objectTypeIndication_name": "MPEG-4 Visual",
+            "streamType": 4, "streamType_name": "visual", "upStream": 0, "reserved": 0, "bufferSizeDB": 7,
+            "maxBitrate": 8, "avgBitrate": 9}, decoder_descriptors=[], descriptors=[])
+
+
+WRONG_TAG = invalid("descriptor has another tag than the one expected")
+LONG_SIZE = invalid("size of a descriptor has more than four bytes")
+# The bits are 1 1 1 10101, and 100011 1 0.
+CONFIG = u8(0x8D, 0x8E) + counting(0x8F, 0x99) + b"\x9a\x80\x80\2\x9b\x9c" + b"\5\0"
+STREAM = b"\x84\x85\xf5\x86\x87" + b"\3\x88\x89\x8a" + b"\x8b\x8c" + b"\4\x15" + CONFIG + b"\6\x80\x80\x80\1\x9d"
+WHOLE = box(b"esds", b"\0\x81\x82\x83", b"\3\x80\x28" + STREAM, b"\x9e\x9f")
+
+
+def descriptor(tag, size_bytes, content):
+    return {"tag": tag, "size_bytes": size_bytes, "content": list(content)}
+
+
+def decoder_config(size_bytes, *descriptors):
+    stream_bits = {"stream_type": 35, "up_stream": True, "reserved": False, "buffer_size_db": 0x8F9091}
+    return {
+        "size_bytes": size_bytes, "object_type_indication": 0x8D, "stream": stream_bits, "max_bitrate": 0x92939495,
+        "avg_bitrate": 0x96979899, "descriptors": list(descriptors),
+    }
+
+
+def flag_bits(dependence, url, clock, priority=21):
+    flags = {"stream_dependence_flag": dependence, "url_flag": url, "ocr_stream_flag": clock}
+    return dict(flags, stream_priority=priority)
+
+
+OF_DECODER = [descriptor(0x9A, 3, b"\x9b\x9c"), descriptor(5, 1, b"")]
+OF_STREAM = [descriptor(6, 4, b"\x9d")]
+ES = {
+    "size_bytes": 2, "es_id": 0x8485, "es_flags": flag_bits(True, True, True), "depends_on_es_id": 0x8687,
+    "url": [0x88, 0x89, 0x8A], "ocr_es_id": 0x8B8C, "decoder_config": decoder_config(1, *OF_DECODER),
+    "descriptors": OF_STREAM,
+}
+
+
+def whole(es, rest):
+    return Box("esds", version=0, flags=0x818283, es=es, rest=list(rest))
+
+
+def declared_with_every_part():
+    yield from declared_as(WHOLE, whole(ES, b"\x9e\x9f"))
+
+
+def declared_in_another_version():
+    yield declared(changed(WHOLE, {8: 1}), NO_VERSION_1)
+
+
+def declared_with_some_flags():
+    """Each of the three flags says whether one part is present."""
+    parts = {"stream_dependence_flag": b"\x86\x87", "url_flag": b"\3\x88\x89\x8a", "ocr_stream_flag": b"\x8b\x8c"}
+    names = {"stream_dependence_flag": "depends_on_es_id", "url_flag": "url", "ocr_stream_flag": "ocr_es_id"}
+    for number in range(8):
+        present = [name for bit, name in zip((4, 2, 1), parts) if number & bit]
+        after = b"\x84\x85" + u8(number << 5 | 21) + b"".join(parts[name] for name in present) + b"\4\x0d" + CONFIG[:13]
+        es = dict(ES, size_bytes=1, es_flags=flag_bits(*(name in present for name in parts)), descriptors=[],
+                  decoder_config=decoder_config(1), **{names[name]: None for name in parts if name not in present})
+        given = box(b"esds", b"\0\x81\x82\x83", b"\3" + u8(len(after)) + after)
+        yield declared(given, whole(es, b""), given)
+
+
+def declared_without_audio_configuration():
+    """The descriptors of a decoder are optional. The codec's own box has an audio configuration of zeros instead."""
+    given = box(b"esds", bytes(4), b"\3\x12\0\1\0\4\x0d" + CONFIG[:13])
+    es = {"size_bytes": 1, "es_id": 1, "es_flags": flag_bits(False, False, False, 0), "depends_on_es_id": None,
+          "url": None, "ocr_es_id": None, "decoder_config": decoder_config(1), "descriptors": []}
+    yield declared(given, Box("esds", version=0, flags=0, es=es, rest=[]), given)
+
+
+def declared_with_sizes_in_every_form():
+    for head, count in [(b"\3\x28", 1), (b"\3\x80\x28", 2), (b"\3\x80\x80\x28", 3), (b"\3\x80\x80\x80\x28", 4)]:
+        given = box(b"esds", b"\0\x81\x82\x83", head + STREAM)
+        yield declared(given, whole(dict(ES, size_bytes=count), b""), given)
+    yield declared(box(b"esds", bytes(4), b"\3\x80\x80\x80\x80", STREAM), LONG_SIZE)
+    yield declared(box(b"esds", bytes(4), b"\3\xff\xff\xff\x80", STREAM), LONG_SIZE)
+
+
+def declared_with_large_sizes():
+    """The sizes of the data are below and above 2^7 and 2^14, and one has every byte."""
+    for head, count in [
+        (b"\x7f", 127), (b"\x81\0", 128), (b"\xff\x7f", 16383), (b"\x81\x80\0", 16384),
+        (b"\x84\x84\3", 66051),
+    ]:
+        data = bytes(number % 253 for number in range(count))
+        inner = b"\x84\x85\x15\4\x0d" + CONFIG[:13] + b"\x10" + head + data
+        size = len(inner)
+        front = u8(*(0x80 | size >> shift & 0x7F for shift in (21, 14, 7)), size & 0x7F)
+        given = box(b"esds", b"\0\x81\x82\x83", b"\3" + front + inner)
+        es = dict(ES, size_bytes=4, es_flags=flag_bits(False, False, False), depends_on_es_id=None, url=None,
+                  ocr_es_id=None, decoder_config=decoder_config(1), descriptors=[descriptor(0x10, len(head), data)])
+        yield declared(given, whole(es, b""), given)
+
+
+def declared_with_sizes_of_missing_bytes():
+    """The box has room for the size, or for one byte less."""
+    for head, size in [
+        (b"\xff\xff\x7f", 2**21 - 1), (b"\x81\x80\x80\0", 2**21), (b"\x83\x85\x87\x09", 6374281),
+        (b"\xff\xff\xff\x7f", 2**28 - 1),
+    ]:
+        given = box(b"esds", bytes(4), b"\3" + head + STREAM)
+        last = 13 + len(head) + size
+        yield declared(resized(given, last), END)
+        yield declared(resized(given, last - 1), WRONG_SIZE)
+
+
+def declared_with_other_tags():
+    yield declared(changed(WHOLE, {12: 4}), WRONG_TAG)
+    yield declared(changed(WHOLE, {26: 5}), WRONG_TAG)
+
+
+def declared_with_wrong_sizes():
+    """The sizes of the stream, of the configuration and of three descriptors are at 14, 27, 44, 48 and 53."""
+    for places, expected in [
+        ({14: 0x27}, WRONG_SIZE),  # The last descriptor ends after the stream.
+        ({14: 0x29}, END),  # A descriptor has a size after the box.
+        ({14: 0x2B}, WRONG_SIZE),  # The stream ends after the box.
+        ({14: 0x7F}, WRONG_SIZE),
+        ({27: 0x0C}, WRONG_SIZE),  # The numbers of the configuration have 13 bytes.
+        ({27: 0x14}, WRONG_SIZE),
+        ({27: 0x7F}, WRONG_SIZE),
+        ({44: 0x7F}, WRONG_SIZE),
+        ({48: 1}, WRONG_SIZE),
+        ({53: 2}, WRONG_SIZE),
+        ({20: 0xFF}, TOO_MANY_BYTES),
+    ]:
+        yield declared(changed(WHOLE, places), expected)
+
+
+def declared_with_sizes_of_the_box():
+    """The bytes after the descriptor are those up to the end of the box."""
+    yield declared(resized(WHOLE, len(WHOLE) - 2), whole(ES, b""), box(b"esds", WHOLE[8:-2]))
+    yield declared(resized(WHOLE, len(WHOLE) - 1), whole(ES, b"\x9e"), box(b"esds", WHOLE[8:-1]))
+    yield declared(resized(WHOLE, len(WHOLE) - 3), WRONG_SIZE)
+    yield declared(resized(WHOLE, len(WHOLE) + 1), END)
