@@ -383,7 +383,7 @@ class Walk:
     def of_namedby(self, inside, names):
         return together(*(self.fields(inside[0], it) for it in names))
 
-    def of_nested(self, inside, _):
+    def of_entry(self, inside, _):
         shape, constant = re.search(
             rf"impl HasFields for {inside[0][0]} \{{ ghost shown = "
             r"\{ λ view \w\. ⟦<(\w+) as NamedShape>⟧\.shown (\w+)\.now view",
@@ -391,7 +391,7 @@ class Walk:
         return self.fields(self.source.types[shape], self.source.constant(constant))
 
     def of_avctail(self, _, name):
-        return together(self.of_nested([type_of("AvcExtension")], None), run(name))
+        return together(self.of_entry([type_of("AvcExtension")], None), run(name))
 
     def of_typed(self, inside, names):
         tag = re.search(rf"impl Tag for {inside[0][0]} .*? const TAG: u32 = (\w+);", self.source.text)[1]

@@ -160,7 +160,7 @@ class Declared:
             return f"counted before; each: {', '.join(self.parts_of_entry(names[0]))}"
         if name == "AvcTail":
             known, least = re.search(
-                r"if has_format\(context\.version\) && (\d+) <= left { .*? read_after::<Nested<(\w+)>>",
+                r"if has_format\(context\.version\) && (\d+) <= left { .*? read_next::<Entry<(\w+)>>",
                 self.source).groups()[::-1]
             parts = ", ".join(self.parts_of_entry(known))
             return f"{parts}; by profile, if {least} bytes are left, else to the end"

@@ -115,7 +115,7 @@ module _ {X : Type 0} (s : Shape X) (is : IsShape s) where
   next_bytes c v rest x y = simp append_assoc
 
   -- Entries that are written after x are read back.
-  counted_back : (s.valid && not s.to_end) ≡ true → (c : Context) (xs : List X) (x y : List ℕ) (end : ℕ)
+  pub counted_back : (s.valid && not s.to_end) ≡ true → (c : Context) (xs : List X) (x y : List ℕ) (end : ℕ)
       → AllByRecursion (s.Fits c) xs → length x + sum_by (s.size c) xs ≤ end
       → (counted s c (x ++ (flat_map (s.bytes c) xs ++ y)) end (length xs) (length x)).outcome ≡ Ok xs
   counted_back valid c [] x y end fits ends =

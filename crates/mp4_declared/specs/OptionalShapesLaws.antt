@@ -90,7 +90,8 @@ run_back x v y o n end at long room =
     ap (λ (k : ℕ). piece_at (x ++ (v ++ y)) o k) (sym long) ∙ piece_back x v y o at in
     rw (enough, piece) refl
 
-run_long : (bytes : List ℕ) (end o n : ℕ) (v : List ℕ) → (reads_run bytes end o n).outcome ≡ Ok v → length v ≡ n
+-- A run that is read has as many bytes as were asked for.
+pub run_long : (bytes : List ℕ) (end o n : ℕ) (v : List ℕ) → (reads_run bytes end o n).outcome ≡ Ok v → length v ≡ n
 unfolding reads_run
 run_long bytes end o n v read =
     let last : List ℕ → Reading (List ℕ) = λ run. memory >>= λ _. done run in

@@ -114,8 +114,8 @@ pub trait DeclaredEntry: Sized + Drop {
     ghost begins: { (c : Context) → 0 < Self.Shape.shape.front c };
 }
 
-/// An `X`, as a shape.
-pub(crate) struct Entry<X>(X);
+/// An `X` by its own shape, as a part of a box.
+pub struct Entry<X>(X);
 
 impl<X: DeclaredEntry> Shape for Entry<X> {
     type Value = X;

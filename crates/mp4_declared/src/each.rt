@@ -23,7 +23,7 @@ pub struct Each<C, X>(C, X);
 
 /// Reads `count` entries, the first at offset `at`. Returns them, and the offset after them. Asks for memory entry by
 /// entry.
-fn read_counted<X: DeclaredEntry>(
+pub fn read_each<X: DeclaredEntry>(
     alloc: Global,
     bytes: &[u8],
     at: usize,
@@ -53,7 +53,7 @@ fn read_counted<X: DeclaredEntry>(
 }
 
 /// Returns the total number of bytes of `entries`. It saturates at 2^64 - 1.
-pub(crate) fn size_of_each<X: DeclaredEntry>(context: Context, entries: &[X]) -> u64
+pub fn size_of_each<X: DeclaredEntry>(context: Context, entries: &[X]) -> u64
     ensures { result
         ≡ min (sum_by ((entry_shape X.Shape.shape X.layout).size context) entries.now) (2 ^ 64 - 1) }
 {
@@ -65,7 +65,7 @@ pub(crate) fn size_of_each<X: DeclaredEntry>(context: Context, entries: &[X]) ->
 }
 
 /// Returns whether each number of each entry fits its field.
-pub(crate) fn each_fits<X: DeclaredEntry>(context: Context, entries: &[X]) -> bool
+pub fn each_fits<X: DeclaredEntry>(context: Context, entries: &[X]) -> bool
     ensures { IsTrue result ↔ All ((entry_shape X.Shape.shape X.layout).Fits context) entries.now }
 {
     entries.iter().all(
@@ -76,7 +76,7 @@ pub(crate) fn each_fits<X: DeclaredEntry>(context: Context, entries: &[X]) -> bo
 }
 
 /// Puts `entries`, one after the other, and returns the offset after them.
-pub(crate) fn put_each<X: DeclaredEntry>(
+pub fn put_each<X: DeclaredEntry>(
     out: &mut [u8],
     at: usize,
     context: Context,
@@ -123,7 +123,7 @@ impl<C: Count, X: DeclaredEntry> Shape for Each<C, X> {
         context: Context,
     ) -> Result<(Entries<X>, usize)> {
         let count = number_at(bytes, at, C::WIDTH);
-        read_counted(alloc, bytes, at + C::WIDTH, end, context, count)
+        read_each(alloc, bytes, at + C::WIDTH, end, context, count)
     }
 }
 

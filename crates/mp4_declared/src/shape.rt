@@ -67,7 +67,7 @@ pub trait PutShape<V>: Shape {
 
 /// Reads a value at offset `at`. Unless `is_present` is set, this first checks that the front is present.
 #[inline]
-pub(crate) fn read_next<S: Shape>(
+pub fn read_next<S: Shape>(
     alloc: Global,
     bytes: &[u8],
     at: usize,

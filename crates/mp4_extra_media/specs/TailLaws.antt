@@ -10,25 +10,12 @@ use Rattle.mp4_frame.proofs.Tables.{value_first}
 use Rattle.mp4_declared.specs.declared.context.Context.{Context}
 use Rattle.mp4_declared.specs.BitsLaws.{and_first}
 use Rattle.mp4_declared.specs.OptionalShapes.{reads_run, rest_shape}
-use Rattle.mp4_declared.specs.OptionalShapesLaws.{rest_laws}
+use Rattle.mp4_declared.specs.OptionalShapesLaws.{rest_laws, run_long}
 use Rattle.mp4_declared.specs.Shape.{Shape}
 use Rattle.mp4_declared.specs.ShapeLaws.{IsShape, ends_always}
 use Rattle.mp4_extra_media.specs.Tail.{is_known, size_tail, FitsTail, bytes_tail, reads_by, tail_shape}
 use Rattle.mp4_extra_media.specs.declared.tail.AtEnd.{AtEnd}
 use Rattle.mp4_extra_media.specs.declared.tail.AtEnd.TheVariants as at_end
-use Rattle.mp4_frame.specs.Reading.{check, memory, piece_at}
-use Rattle.mp4_frame.proofs.Checks.{check_ok}
-use Rattle.mp4_declared.specs.OptionalShapesLaws.{piece_long}
-
--- A run that is read has as many bytes as were asked for.
-run_is_long : (bytes : List ℕ) (end o n : ℕ) (v : List ℕ) → (reads_run bytes end o n).outcome ≡ Ok v → length v ≡ n
-unfolding reads_run
-run_is_long bytes end o n v read =
-    let last : List ℕ → Reading (List ℕ) = λ run. memory >>= λ _. done run in
-    let one = check_ok (leb n (end - o)) (λ _. piece_at bytes o n >>= last) v read in
-    let p = value_first (piece_at bytes o n) last v one.1 in
-    let is : p.0 ≡ v = is_value p.0 v p.2 in
-    sym (ap length is) ∙ piece_long bytes o n p.0 p.1
 
 module _ {A : Type 0} (holds : Context → Bool) (k : ℕ) (s : Shape A) (of_s : IsShape s)
     (least : (c : Context) (x : A) → k ≤ s.size c x) where
@@ -66,7 +53,7 @@ module _ {A : Type 0} (holds : Context → Bool) (k : ℕ) (s : Shape A) (of_s :
   stable_by valid c bytes at end v false are is read =
       let p = value_first (reads_run bytes end at (end - at)) (λ u. done (at_end.Other u)) v read in
       let same : at_end.Other p.0 ≡ v = is_value (at_end.Other p.0) v p.2 in
-      let long = run_is_long bytes end at (end - at) p.0 p.1 in
+      let long = run_long bytes end at (end - at) p.0 p.1 in
       subst (λ (u : AtEnd A (List ℕ)). FitsTail holds k s c u) same (ap (known c) long ∙ is)
 
   tail_long : (c : Context) (v : AtEnd A (List ℕ)) → FitsTail holds k s c v

@@ -16,15 +16,13 @@ ghost use Rattle.mp4_declared.specs.OwnBox.{layout_of};
 ghost use Rattle.mp4_declared.specs.DeclaredEntry.{exact_layout_of};
 ghost use Rattle.mp4_declared.specs.Layout.{packed, fields_of};
 
-use crate::after::read_after;
 use crate::counted::Counted;
 use crate::dependent::{Dependent, HasContext};
-use crate::nested::Nested;
 use crate::tail::AtEnd;
 use mp4_declared::{
-    Bits, Bytes, Context, Declared, DeclaredBox, DeclaredEntry, Each, EntryLayout, EntryVisitor,
-    Last, PutShape, Rest, Shape, ShapeVisitor, U8, U16, box_of, clone_each, entry_of, numbers_of,
-    parts_of,
+    Bits, Bytes, Context, Declared, DeclaredBox, DeclaredEntry, Each, Entry, EntryLayout,
+    EntryVisitor, Last, PutShape, Rest, Shape, ShapeVisitor, U8, U16, box_of, clone_each, entry_of,
+    numbers_of, parts_of, read_next,
 };
 use mp4_frame::{Entries, Result, TryClone, codes};
 use mp4_shown::{
@@ -286,10 +284,10 @@ pub struct AvcTail;
 impl Shape for AvcTail {
     type Value = AtEnd<AvcExtension, Entries<u8>>;
 
-    ghost shape = { tail_shape (λ c. has_format c.version) 4 ⟦<Nested<AvcExtension> as Shape>⟧.shape };
+    ghost shape = { tail_shape (λ c. has_format c.version) 4 ⟦<Entry<AvcExtension> as Shape>⟧.shape };
 
-    ghost shape_laws = { tail_laws (λ c. has_format c.version) 4 ⟦<Nested<AvcExtension> as Shape>⟧.shape
-        ⟦<Nested<AvcExtension> as Shape>⟧.shape_laws (λ c x. avc_least _ _) };
+    ghost shape_laws = { tail_laws (λ c. has_format c.version) 4 ⟦<Entry<AvcExtension> as Shape>⟧.shape
+        ⟦<Entry<AvcExtension> as Shape>⟧.shape_laws (λ c x. avc_least _ _) };
 
     fn is_fixed() -> bool {
         false
@@ -308,8 +306,8 @@ impl Shape for AvcTail {
     ) -> Result<(AtEnd<AvcExtension, Entries<u8>>, usize)> {
         let left = end.saturating_sub(at as u64);
         if has_format(context.version) && 4 <= left {
-            let (extension, next) = read_after::<Nested<AvcExtension>>(
-                alloc, bytes, at, end, context,
+            let (extension, next) = read_next::<Entry<AvcExtension>>(
+                alloc, bytes, at, end, context, false,
             )?;
             Ok((AtEnd::Known(extension), next))
         } else {
@@ -324,7 +322,7 @@ impl<'a> PutShape<AtEnd<&'a AvcExtension, &'a [u8]>> for AvcTail {
 
     fn size(context: Context, value: AtEnd<&'a AvcExtension, &'a [u8]>) -> u64 {
         match value {
-            AtEnd::Known(extension) => Nested::<AvcExtension>::size(context, extension),
+            AtEnd::Known(extension) => Entry::<AvcExtension>::size(context, extension),
             AtEnd::Other(rest) => rest.len() as u64,
         }
     }
@@ -332,7 +330,7 @@ impl<'a> PutShape<AtEnd<&'a AvcExtension, &'a [u8]>> for AvcTail {
     fn fits(context: Context, value: AtEnd<&'a AvcExtension, &'a [u8]>) -> bool {
         match value {
             AtEnd::Known(extension) => {
-                has_format(context.version) && Nested::<AvcExtension>::fits(context, extension)
+                has_format(context.version) && Entry::<AvcExtension>::fits(context, extension)
             }
             AtEnd::Other(rest) => !(has_format(context.version) && 4 <= rest.len() as u64),
         }
@@ -345,7 +343,7 @@ impl<'a> PutShape<AtEnd<&'a AvcExtension, &'a [u8]>> for AvcTail {
         value: AtEnd<&'a AvcExtension, &'a [u8]>,
     ) -> usize {
         match value {
-            AtEnd::Known(extension) => Nested::<AvcExtension>::put(out, at, context, extension),
+            AtEnd::Known(extension) => Entry::<AvcExtension>::put(out, at, context, extension),
             AtEnd::Other(rest) => mp4_frame::put_bytes(out, at, rest),
         }
     }

@@ -9,8 +9,7 @@ ghost use Rattle.mp4_declared.specs.declared.context.Context.{Context};
 ghost use Rattle.mp4_extra_media.specs.Dependent.{dependent_shape};
 ghost use Rattle.mp4_extra_media.specs.DependentLaws.{dependent_laws};
 
-use crate::after::read_after;
-use mp4_declared::{Bits, Context, EntryLayout, PutShape, Shape};
+use mp4_declared::{Bits, Context, EntryLayout, PutShape, Shape, read_next};
 use mp4_frame::Result;
 use std::alloc::Global;
 
@@ -57,7 +56,7 @@ where
         context: Context,
     ) -> Result<((X, S::Value), usize)> {
         let (fields, next) = Bits::<X, N, E>::read(alloc, bytes, at, end, context)?;
-        let (value, next) = read_after::<S>(alloc, bytes, next, end, fields.context())?;
+        let (value, next) = read_next::<S>(alloc, bytes, next, end, fields.context(), false)?;
         Ok(((fields, value), next))
     }
 }

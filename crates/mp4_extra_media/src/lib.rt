@@ -2,7 +2,6 @@
 //! shape, in a file of its name. `mp4_extra` exports them all.
 #![tactic(auto)]
 
-mod after;
 pub mod alac;
 pub mod auxc;
 pub mod av1c;
@@ -29,7 +28,6 @@ pub mod imir;
 pub mod irot;
 pub mod ispe;
 pub mod mdcv;
-pub mod nested;
 pub mod pasp;
 pub mod pixi;
 pub mod srat;

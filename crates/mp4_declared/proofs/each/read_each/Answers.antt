@@ -3,7 +3,7 @@ use Rattle.std.proofs.lemmas.List.Sums.{sum_by_push}
 use Rattle.std.proofs.lemmas.Result.{err_from_is_err_and}
 use Rattle.mp4_declared.specs.DeclaredEntry.{entry_shape}
 use Rattle.mp4_declared.proofs.OneByOne.{at_first, entry_faults, entry_is_not_kept, entry_is_read, none_is_left}
-use Rattle.mp4_declared.proofs.each.read_counted.Goals as goal
+use Rattle.mp4_declared.proofs.each.read_each.Goals as goal
 
 pub loop-left-init : goal.loop-left-init
 loop-left-init g c =

@@ -4,7 +4,7 @@ use Rattle.mp4_frame.proofs.Decided.{Decides}
 use Rattle.mp4_declared.specs.DeclaredEntry.{entry_shape}
 use Rattle.mp4_declared.specs.Each.{counted}
 use Rattle.mp4_declared.proofs.OneByOne.{continued}
-use Rattle.mp4_extra_media.proofs.counted.read_entries.Given as goal
+use Rattle.mp4_declared.proofs.each.read_each.Given as goal
 
 abbrev pub invariant-loop-left : goal.invariant-loop-left
 invariant-loop-left g l =
