@@ -1,0 +1,152 @@
+-- The boxes of a level, the splices of edits, and a file after splices, one after the other.
+use Rattle.std.proofs.Common.{◌≡◌, ℕ, zero, suc, ◌+◌, ◌-◌, ◌<◌, ◌≤◌, Bool, true, false, cond, List, [], ◌∷◌, ◌++◌}
+use Rattle.std.proofs.Common.{length, take, drop, get_or, Some, refl, sym, ap, subst, ◌∙◌, arith}
+use Rattle.std.proofs.lemmas.List.{append-nil, append_assoc, drop_all, drop_more, take_all, take_more, take_rest}
+use Rattle.std.proofs.lemmas.List.Elements.{All-push, filter_more}
+use Rattle.std.specs.List.{AllZip}
+use Rattle.std.specs.Prelude.{All, filter, slice_get}
+use Rattle.mp4_walk.specs.Source.{piece}
+use Rattle.mp4_walk.specs.Tops.{is_whole}
+use Rattle.mp4_walk.specs.declared.tree_box.TreeBox.{TreeBox}
+use Rattle.mp4_remux.specs.Edits.{after_last}
+use Rattle.mp4_remux.specs.Pieces.{spelled}
+use Rattle.mp4_remux.specs.Splices.{AreAfter, spliced, spliced_from}
+use Rattle.mp4_remux.specs.declared.edits.splice.Splice.{Splice}
+use Rattle.mp4_remux.specs.declared.pieces.piece.Piece.{Piece}
+
+-- one more pair
+pub zip_push : {X Y : Type 0} (R : X → Y → Type 0) (xs : List X) (ys : List Y) (x : X) (y : Y) → AllZip R xs ys
+    → R x y → AllZip R (xs ++ x ∷ []) (ys ++ y ∷ [])
+zip_push R [] [] x y h r = (r, tt)
+zip_push R [] (b ∷ ys) x y h r = absurd h
+zip_push R (a ∷ xs) [] x y h r = absurd h
+zip_push R (a ∷ xs) (b ∷ ys) x y h r = (h.0, zip_push R xs ys x y h.1 r)
+
+module _ {X : Type 0} (P : X → Type 0) (xs : List X) (i : ℕ) where
+  -- one more element has the property
+  pub all_more : (d : X) → i < length xs → All P (take i xs) → P (get_or xs i d) → All P (take (i + 1) xs)
+  all_more d within so_far here =
+      subst (λ (l : List X). All P l) (sym (take_more xs i d within))
+      (All-push P (take i xs) (get_or xs i d) so_far here)
+
+  -- all elements have it
+  pub all_end : length xs ≤ i → All P (take i xs) → All P xs
+  all_end gone so_far = subst (λ (l : List X). All P l) (take_all i xs gone) so_far
+
+get_more : {X : Type 0} (x : X) (xs : List X) (k : ℕ) → 0 < k → slice_get (x ∷ xs) k ≡ slice_get xs (k - 1)
+get_more x xs zero more = absurd (omega (arith, more))
+get_more x xs (suc k) more = refl
+
+module _ {X : Type 0} (p : X → Bool) (xs : List X) (i : ℕ) (d : X) (within : i < length xs) where
+  -- the next element passes the filter, or doesn't, among those that are passed
+  pub filter_takes : p (get_or xs i d) ≡ true
+      → filter p (take (i + 1) xs) ≡ filter p (take i xs) ++ get_or xs i d ∷ []
+  filter_takes yes =
+      filter_more p xs i d within
+      ∙ ap (λ (b : Bool). filter p (take i xs) ++ cond b (get_or xs i d ∷ []) []) yes
+
+  pub filter_leaves : p (get_or xs i d) ≡ false → filter p (take (i + 1) xs) ≡ filter p (take i xs)
+  filter_leaves no =
+      filter_more p xs i d within
+      ∙ ap (λ (b : Bool). filter p (take i xs) ++ cond b (get_or xs i d ∷ []) []) no
+      ∙ append-nil (filter p (take i xs))
+
+  -- the same among those that are left
+  pub level_takes : p (get_or xs i d) ≡ true
+      → filter p (drop i xs) ≡ get_or xs i d ∷ filter p (drop (i + 1) xs)
+  level_takes yes = ap (λ (ys : List X). filter p ys) (drop_more xs i d within) ∙ rw yes refl
+
+  pub level_skips : p (get_or xs i d) ≡ false → filter p (drop i xs) ≡ filter p (drop (i + 1) xs)
+  level_skips no = ap (λ (ys : List X). filter p ys) (drop_more xs i d within) ∙ rw no refl
+
+  -- the element that passes is the one, or is counted
+  pub nth_here : (k : ℕ) → p (get_or xs i d) ≡ true → k ≡ 0
+      → slice_get (filter p (drop i xs)) k ≡ Some (get_or xs i d)
+  nth_here k yes none =
+      ap (λ (n : ℕ). slice_get (filter p (drop i xs)) n) none ∙ ap (λ (ys : List X). slice_get ys 0) (level_takes yes)
+
+  pub nth_passes : (k : ℕ) → p (get_or xs i d) ≡ true → 0 < k
+      → slice_get (filter p (drop i xs)) k ≡ slice_get (filter p (drop (i + 1) xs)) (k - 1)
+  nth_passes k yes more =
+      ap (λ (ys : List X). slice_get ys k) (level_takes yes) ∙ get_more (get_or xs i d) (filter p (drop (i + 1) xs)) k
+      more
+
+  -- a pair of the element that passes
+  pub pair_more : {Y : Type 0} (R : X → Y → Type 0) (ys : List Y) (y : Y) → p (get_or xs i d) ≡ true
+      → AllZip R (filter p (take i xs)) ys → R (get_or xs i d) y → AllZip R (filter p (take (i + 1) xs)) (ys ++ y ∷ [])
+  pair_more {Y} R ys y yes so_far one =
+      subst (λ (zs : List X). AllZip R zs (ys ++ y ∷ [])) (sym (filter_takes yes))
+      (zip_push R (filter p (take i xs)) ys (get_or xs i d) y so_far one)
+
+  pub pair_left : {Y : Type 0} (R : X → Y → Type 0) (ys : List Y) → p (get_or xs i d) ≡ false
+      → AllZip R (filter p (take i xs)) ys → AllZip R (filter p (take (i + 1) xs)) ys
+  pair_left {Y} R ys no so_far = subst (λ (zs : List X). AllZip R zs ys) (sym (filter_leaves no)) so_far
+
+module _ (p : TreeBox → Bool) (xs : List TreeBox) (end : ℕ) (i : ℕ) (d : TreeBox) (within : i < length xs) where
+  -- the next box of the level is not whole
+  pub last_here : p (get_or xs i d) ≡ true → is_whole (get_or xs i d).state ≡ false
+      → after_last (filter p (drop i xs)) end ≡ (get_or xs i d).position
+  last_here yes cut =
+      ap (λ (ys : List TreeBox). after_last ys end) (level_takes p xs i d within yes) ∙ rw cut refl
+
+  -- the next box of the level is whole
+  pub last_passes : p (get_or xs i d) ≡ true → is_whole (get_or xs i d).state ≡ true
+      → after_last (filter p (drop i xs)) end ≡ after_last (filter p (drop (i + 1) xs)) end
+  last_passes yes whole =
+      ap (λ (ys : List TreeBox). after_last ys end) (level_takes p xs i d within yes) ∙ rw whole refl
+
+  -- the next box is in another level
+  pub last_skips : p (get_or xs i d) ≡ false
+      → after_last (filter p (drop i xs)) end ≡ after_last (filter p (drop (i + 1) xs)) end
+  last_skips no = ap (λ (ys : List TreeBox). after_last ys end) (level_skips p xs i d within no)
+
+pub last_none : (p : TreeBox → Bool) (xs : List TreeBox) (end : ℕ) (i : ℕ) → length xs ≤ i
+    → after_last (filter p (drop i xs)) end ≡ end
+last_none p xs end i gone = ap (λ (ys : List TreeBox). after_last (filter p ys) end) (drop_all i xs gone)
+
+-- the next splice is after the one before
+pub after_more : (n at depth : ℕ) (ss : List Splice) (i : ℕ) (d : Splice) → i < length ss
+    → at ≤ (get_or ss i d).begin → (at ≡ (get_or ss i d).begin → (get_or ss i d).depth ≤ depth)
+    → (get_or ss i d).begin ≤ (get_or ss i d).end
+    → AreAfter n (get_or ss i d).end (get_or ss i d).depth (drop (i + 1) ss) → AreAfter n at depth (drop i ss)
+after_more n at depth ss i d within low deep long rest =
+    subst (λ (ts : List Splice). AreAfter n at depth ts) (sym (drop_more ss i d within)) (low, deep, long, rest)
+
+pub after_none : (n at depth : ℕ) (ss : List Splice) (i : ℕ) → length ss ≤ i → at ≤ n → AreAfter n at depth (drop i ss)
+after_none n at depth ss i gone small =
+    subst (λ (ts : List Splice). AreAfter n at depth ts) (sym (drop_all i ss gone)) small
+
+-- no piece is planned yet
+pub no_piece : (ps : List Piece) (ss : List Splice) → ps ≡ [] → (B : List ℕ)
+    → spelled B ps ++ spliced_from B 0 ss ≡ spliced B ss
+unfolding spelled
+no_piece ps ss none B = ap (λ (qs : List Piece). spelled B qs ++ spliced_from B 0 ss) none
+
+-- the bytes up to a splice are planned, and its own
+pub one_splice : (B : List ℕ) (ps qs : List Piece) (at : ℕ) (ss : List Splice) (i : ℕ) (d : Splice) (R : List ℕ)
+    → i < length ss
+    → spelled B qs ≡ spelled B ps ++ piece B at ((get_or ss i d).begin - at) ++ (get_or ss i d).bytes.items
+    → spelled B ps ++ spliced_from B at (drop i ss) ≡ R
+    → spelled B qs ++ spliced_from B (get_or ss i d).end (drop (i + 1) ss) ≡ R
+one_splice B ps qs at ss i d R within push so_far =
+    let s = get_or ss i d in
+    let front = spelled B ps in
+    let old = piece B at (s.begin - at) in
+    let new = s.bytes.items in
+    let rest = spliced_from B s.end (drop (i + 1) ss) in
+    ap (λ (xs : List ℕ). xs ++ rest) push
+    ∙ append_assoc (front ++ old) new rest
+    ∙ append_assoc front old (new ++ rest)
+    ∙ ap (λ (xs : List ℕ). front ++ xs) (sym (append_assoc old new rest))
+    ∙ ap (λ (ts : List Splice). front ++ spliced_from B at ts) (sym (drop_more ss i d within))
+    ∙ so_far
+
+-- the bytes after the last splice are planned
+pub last_piece : (B : List ℕ) (ps qs : List Piece) (at n : ℕ) (ss : List Splice) (i : ℕ) (R : List ℕ) → n ≡ length B
+    → length ss ≤ i → spelled B qs ≡ spelled B ps ++ take (n - at) (drop at B)
+    → spelled B ps ++ spliced_from B at (drop i ss) ≡ R → spelled B qs ≡ R
+last_piece B ps qs at n ss i R long gone push so_far =
+    push
+    ∙ ap (λ (xs : List ℕ). spelled B ps ++ xs) (ap (λ (k : ℕ). take (k - at) (drop at B)) long ∙ take_rest B at)
+    ∙ ap (λ (ts : List Splice). spelled B ps ++ spliced_from B at ts) (sym (drop_all i ss gone))
+    ∙ so_far
