@@ -19,11 +19,41 @@ def stbl(offsets, sizes, per=1, wide=False, extra=b""):
                + full(b"stsc", 0, 0, be(4, 1, 1, per, 1)) + table + chunks + extra)
 
 
+def ticks_in(table):
+    """Returns the duration of the samples by the first `stts` in `table`, or 0 if there is none."""
+    at = table.find(b"stts")
+    if at < 0 or not number_at(table, at + 8, 4):
+        return 0
+    return number_at(table, at + 12, 4) * number_at(table, at + 16, 4)
+
+
+def number_at(data, at, length):
+    return int.from_bytes(data[at:at + length], "big")
+
+
+def lasting(header, duration):
+    """Returns the `mvhd`, `tkhd` or `mdhd` `header` with another duration. The largest number is for an unknown one."""
+    wide = header[8] == 1
+    at = {b"tkhd": (28, 36), b"mdhd": (24, 32), b"mvhd": (24, 32)}[header[4:8]][wide]
+    width = 8 if wide else 4
+    return header[:at] + be(width, min(duration, 256**width - 1)) + header[at + width:]
+
+
+def duration_of(track):
+    """Returns the duration in the first `tkhd` of `track`, or 0 if there is none."""
+    at = track.find(b"tkhd")
+    wide = at >= 0 and track[at + 4] == 1
+    return 0 if at < 0 else number_at(track, at + (32 if wide else 24), 8 if wide else 4)
+
+
 def trak(table, number=1, flags=1, header=None, extra=b""):
+    """Returns a track with these tables, whose durations are those of its samples."""
     dinf = box(b"dinf", full(b"dref", 0, 0, be(4, 1) + full(b"url ", 0, flags)))
-    media = box(b"mdia", mdhd(1000, b"und") + handler(b"vide", b"") + box(b"minf", full(b"vmhd", 0, 1, bytes(8)) + dinf
-                                                                          + table))
-    return box(b"trak", (tkhd(number) if header is None else header) + media + extra)
+    ticks = ticks_in(table)
+    media = box(b"mdia", lasting(mdhd(1000, b"und"), ticks) + handler(b"vide", b"")
+                + box(b"minf", full(b"vmhd", 0, 1, bytes(8)) + dinf + table))
+    header = tkhd(number) if header is None else header
+    return box(b"trak", (lasting(header, ticks * 600 // 1000) if header else b"") + media + extra)
 
 
 def mvhd():
@@ -32,7 +62,15 @@ def mvhd():
 
 
 def moov(*tracks):
-    return box(b"moov", mvhd() + b"".join(tracks))
+    """Returns a movie with the duration of its longest track."""
+    return box(b"moov", lasting(mvhd(), max([0, *map(duration_of, tracks)])) + b"".join(tracks))
+
+
+def lost(name, declared, present):
+    """Returns what is said of a box of the top level of which the file has only the beginning."""
+    cause = "" if name == "mdat" else ", or this size is wrong"
+    return (f"{name} declares {declared} bytes and {present} are present: the file lost its last {declared - present} "
+            f"bytes{cause}")
 
 
 def front(media=40):
@@ -54,6 +92,11 @@ def line(data, name, path, said, nth=0):
 
 def lies(said, many="1 of 1 chunk lies"):
     return f"{many} outside the media data; the first is {said}"
+
+
+def shares(many, number, offset, begin, end):
+    return (f"warning: {many} bytes with the chunk before; the first is chunk {number} at offset {offset}, and chunk "
+            f"{number - 1} has the bytes from {begin} to {end}")
 
 
 def past(what, offset, end, length):
@@ -117,14 +160,16 @@ def more_chunks():
     data = head(first) + be(4, 1) + b"mdat" + be(8, 80000) + bytes(40000)
     data = data[:40000]
     found.append(("119 chunks", data, [
+        f"{first - 16} mdat: {lost('mdat', 80000, 40000 - first + 16)}",
         line(data, b"stco", f"{STBL}/stco", lies("chunk 59 at offset 40090, past the end of the file (40000 bytes)",
-                                                 "61 of 119 chunks lie")),
-        f"{first - 16} mdat: unexpected end of input"]))
+                                                 "61 of 119 chunks lie"))]))
     # Two mdats with a box between them: chunks in each, across both, and between them, in no order.
     media = box(b"mdat", bytes(10)) + box(b"free", bytes(12)) + box(b"mdat", bytes(10))
     data = ftyp(b"isom", b"isom") + media + moov(trak(stbl([66, 28, 30, 46, 74, 38], [2, 10, 9, 1, 2, 0])))
-    found.append(("two mdats", data, [line(data, b"stco", f"{STBL}/stco", lies(
-        "chunk 3 at offset 30, which ends at 39, past the end of its mdat at 38", "2 of 6 chunks lie"))]))
+    found.append(("two mdats", data, [
+        line(data, b"stco", f"{STBL}/stco", lies(
+            "chunk 3 at offset 30, which ends at 39, past the end of its mdat at 38", "2 of 6 chunks lie")),
+        line(data, b"stco", f"{STBL}/stco", shares("1 chunk shares", 3, 30, 28, 38))]))
     # An mdat in a udta is not media data of the file.
     data = ftyp(b"isom", b"isom") + moov(trak(stbl([36], [4]))) + box(b"udta", box(b"mdat", bytes(8)))
     inside = len(data) - 8
@@ -136,6 +181,9 @@ def more_chunks():
         data = front() + moov(trak(stbl([3], [1]), 1, flags), trak(stbl([4], [1]), 2))
         found.append((f"a url of flags {flags}", data, [
             line(data, b"stco", SECOND + "/stco", lies("chunk 1 at offset 4, which is in no mdat"), 1)]))
+    data = front() + moov(trak(stbl([3], [1])), trak(stbl([4], [1]), 2, 0))
+    found.append(("a url of flags 0 in the second track", data, [
+        line(data, b"stco", f"{STBL}/stco", lies("chunk 1 at offset 3, which is in no mdat"))]))
     found.append(("the only url has flags 2", front() + moov(trak(stbl([3], [1]), 1, 2)), []))
     data = front() + moov(trak(stbl([3], [1]), 1, 3))
     found.append(("a url of flags 3", data, [
@@ -147,10 +195,12 @@ def more_chunks():
         line(data, b"stco", f"{STBL}/stco", lies("chunk 3 at offset 4, which is in no mdat", "1 of 3 chunks lies"))]))
     # Such tables in an stbl that is cut are not compared.
     data = front() + moov(trak(stbl([MEDIA], [9] * 7, 2, False, box(b"free", bytes(9)))))
+    size = len(data) - at(data, b"moov")
     data, cut = data[:-1], "unexpected end of input"
-    found.append(("a cut stbl", data, [line(data, name, path, cut) for name, path in (
-        (b"moov", "moov"), (b"trak", "moov/trak"), (b"mdia", "moov/trak/mdia"), (b"minf", "moov/trak/mdia/minf"),
-        (b"stbl", STBL), (b"free", f"{STBL}/free"))]))
+    found.append(("a cut stbl", data, [line(data, b"moov", "moov", lost("moov", size, size - 1))] + [
+        line(data, name, path, cut) for name, path in (
+            (b"trak", "moov/trak"), (b"mdia", "moov/trak/mdia"), (b"minf", "moov/trak/mdia/minf"),
+            (b"stbl", STBL), (b"free", f"{STBL}/free"))]))
     # There are more chunks than samples, so that the last chunks have no bytes.
     data = front() + moov(trak(stbl([MEDIA, MEDIA + 40, MEDIA + 41], (40, 1))))
     found.append(("chunks without samples", data, [
@@ -210,6 +260,8 @@ def fragments():
          lambda begin, end, moof_: "run 1, which begins before the file")
     case("in the moof", lambda o: moof(traf(1, 0x20000, b"", trun(4, [1]))),
          lambda begin, end, moof_: f"run 1 at offset {moof_ + 4}, which is in no mdat")
+    case("in the content of the moof", lambda o: moof(traf(1, 0x20000, b"", trun(12, [1]))),
+         lambda begin, end, moof_: f"run 1 at offset {moof_ + 12}, which is in no mdat")
     case("two runs", lambda o: moof(traf(1, 0x20000, b"", trun(o, [12]), trun(None, [8]))), None)
     case("two runs, the second too long", lambda o: moof(traf(1, 0x20000, b"", trun(o, [12]), trun(None, [9]))),
          over(2, 12, 9), head, "1 of 2 runs lies")
@@ -259,7 +311,7 @@ def tracks():
     none = front() + moov(trak(table, 0))
     wide = front() + moov(trak(table, 9, 1, tkhd(9, 0, 0, 1)), trak(table, 9))
     said = f"is that of another track too, whose tkhd is at {other}"
-    zero = "track_ID 0 is no number of a track; these begin at 1"
+    zero = "warning: track_ID 0 is no number of a track; these begin at 1"
     return [("two tracks of a number", twice, [line(twice, b"tkhd", "moov/trak[2]/tkhd", f"track_ID 4 {said}", 2)]),
             ("track 0", none, [line(none, b"tkhd", "moov/trak/tkhd", zero)]),
             ("two tracks of a number, the first in a tkhd of version 1", wide, [
@@ -273,23 +325,26 @@ def lacks():
     found = []
 
     def case(name, data, code, path, said, nth=0):
-        found.append((f"lacks: {name}", data, [line(data, code, path, said, nth)] if said else []))
+        """Adds a file whose box at `path` lacks the boxes in `said`, or has the fault that it says."""
+        lines = [] if said is None else [f"there is no {it}" for it in said] if isinstance(said, list) else [said]
+        found.append((f"lacks: {name}", data, [line(data, code, path, it, nth) for it in lines]))
 
     media = front()
-    case("no mvhd", media + box(b"moov", trak(table)), b"moov", "moov", "there is no mvhd")
+    case("no mvhd", media + box(b"moov", trak(table)), b"moov", "moov", ["mvhd"])
+    case("an mvhd in a udta", media + box(b"moov", box(b"udta", mvhd()) + trak(table)), b"moov", "moov", ["mvhd"])
     case("a compressed movie", media + box(b"moov", box(b"cmov", box(b"dcom", b"zlib"))), b"moov", "moov", None)
     case("references to movies", media + box(b"moov", box(b"rmra", b"")), b"moov", "moov", None)
     entries = stsd(visual(b"mp4v", 64, 48, b"", b""))
     case("an stbl of an stsd", media + moov(trak(box(b"stbl", entries))), b"stbl", STBL,
-         "there is no stts, no stsc, no stsz or stz2, no stco or co64")
+         ["stts", "stsc", "stsz or stz2", "stco or co64"])
     case("an stbl of nothing", media + moov(trak(box(b"stbl"))), b"stbl", STBL,
-         "there is no stsd, no stts, no stsc, no stsz or stz2, no stco or co64")
+         ["stsd", "stts", "stsc", "stsz or stz2", "stco or co64"])
     whole = stbl([MEDIA], [1])
     for name, length in ((b"stsd", len(entries)), (b"stts", 24), (b"stsc", 28), (b"stsz", 24), (b"stco", 20)):
         place = whole.index(name) - 4
         rest = whole[8:place] + whole[place + length:]
         said = {b"stsz": "stsz or stz2", b"stco": "stco or co64"}.get(name, name.decode())
-        case(f"no {name.decode()}", media + moov(trak(box(b"stbl", rest))), b"stbl", STBL, f"there is no {said}")
+        case(f"no {name.decode()}", media + moov(trak(box(b"stbl", rest))), b"stbl", STBL, [said])
     small = full(b"stz2", 0, 0, be(4, 8, 1) + b"\1")
     place = whole.index(b"stsz") - 4
     case("an stz2", media + moov(trak(box(b"stbl", whole[8:place] + small + whole[place + 24:]))), b"stbl", STBL, None)
@@ -300,24 +355,26 @@ def lacks():
         case(f"an stz2 {name}", media + moov(trak(box(b"stbl", whole[8:place] + wrong + whole[place + 24:]))), b"stz2",
              f"{STBL}/stz2", said)
     case("a co64", media + moov(trak(stbl([MEDIA], [1], 1, True))), b"stbl", STBL, None)
-    case("no tkhd", media + moov(trak(table, 1, 1, b"")), b"trak", "moov/trak", "there is no tkhd")
-    case("no mdia", media + moov(box(b"trak", tkhd(1))), b"trak", "moov/trak", "there is no mdia")
+    case("no tkhd", media + moov(trak(table, 1, 1, b"")), b"trak", "moov/trak", ["tkhd"])
+    case("no mdia", media + moov(box(b"trak", tkhd(1))), b"trak", "moov/trak", ["mdia"])
     case("no mdhd", media + moov(box(b"trak", tkhd(1) + box(b"mdia", handler(b"vide", b"") + box(b"minf", table)))),
-         b"mdia", "moov/trak/mdia", "there is no mdhd")
+         b"mdia", "moov/trak/mdia", ["mdhd"])
     clock = mdhd(1000, b"und")
     case("no minf", media + moov(box(b"trak", tkhd(1) + box(b"mdia", clock))), b"mdia", "moov/trak/mdia",
-         "there is no minf")
+         ["minf"])
     case("no mdhd and no minf", media + moov(box(b"trak", tkhd(1) + box(b"mdia"))), b"mdia", "moov/trak/mdia",
-         "there is no mdhd, no minf")
+         ["mdhd", "minf"])
     case("no stbl", media + moov(box(b"trak", tkhd(1) + box(b"mdia", clock + box(b"minf")))), b"minf",
-         "moov/trak/mdia/minf", "there is no stbl")
-    case("no mfhd", box(b"moof", traf(1, 0x20000, b"")), b"moof", "moof", "there is no mfhd")
-    case("no tfhd", moof(box(b"traf")), b"traf", "moof/traf", "there is no tfhd")
+         "moov/trak/mdia/minf", ["stbl"])
+    case("no mfhd", box(b"moof", traf(1, 0x20000, b"")), b"moof", "moof", ["mfhd"])
+    case("no tfhd", moof(box(b"traf")), b"traf", "moof/traf", ["tfhd"])
     cut = media + moov(trak(table))
     cut = cut[:at(cut, b"mdhd")]
-    cut_at = ((b"moov", "moov"), (b"trak", "moov/trak"), (b"mdia", "moov/trak/mdia"))
-    found.append(("lacks: a movie that is cut", cut, [
-        line(cut, name, path, "unexpected end of input") for name, path in cut_at]))
+    whole_length = len(moov(trak(table)))
+    lines = [line(cut, b"moov", "moov", lost("moov", whole_length, len(cut) - len(media)))]
+    lines += [line(cut, name, path, "unexpected end of input")
+              for name, path in ((b"trak", "moov/trak"), (b"mdia", "moov/trak/mdia"))]
+    found.append(("lacks: a movie that is cut", cut, lines))
     return found
 
 
@@ -325,9 +382,14 @@ def twice():
     """Returns cases of two boxes where there may be only one."""
     found, table = [], stbl([MEDIA], [1])
 
-    def case(parent, names, data, code, path, number=2, nth=1):
-        said = f"this is number {number}, and a {parent} may have only one {names}"
-        found.append((f"twice: {parent}, {code.decode()}", data, [line(data, code, path, said, nth)]))
+    def said(parent, names, earlier):
+        return f"warning: a {parent} may have only one {names}, and there is one before this at {earlier}"
+
+    def case(parent, names, data, code, path, nth=1, other=None):
+        """Adds a file in which the box `code` after `nth` others is one too many. The one before it is `other`."""
+        earlier = at(data, code, nth - 1) if other is None else at(data, other)
+        found.append((f"twice: {parent}, {code.decode()}", data, [
+            line(data, code, path, said(parent, names, earlier), nth)]))
 
     def put(parent, content):
         """Returns a file with `content` at the end of the box `parent`."""
@@ -347,9 +409,9 @@ def twice():
              b"stco": full(b"stco", 0, 0, be(4, 0)), b"co64": full(b"co64", 0, 0, be(4, 0))}
     names = {b"stsz": "stsz, stz2", b"stz2": "stsz, stz2", b"stco": "stco, co64", b"co64": "stco, co64"}
     for name, content in empty.items():
-        index = "" if name in (b"stz2", b"co64") else "[1]"
-        case("stbl", names.get(name, name.decode()), put(b"stbl", content), name, f"{STBL}/{name.decode()}{index}",
-             2, 1 if index else 0)
+        other = {b"stz2": b"stsz", b"co64": b"stco"}.get(name)
+        case("stbl", names.get(name, name.decode()), put(b"stbl", content), name,
+             f"{STBL}/{name.decode()}{'' if other else '[1]'}", 0 if other else 1, other)
     others = {b"ctts": full(b"ctts", 0, 0, be(4, 0)), b"stss": full(b"stss", 0, 0, be(4, 0)),
               b"cslg": full(b"cslg", 0, 0, be(4, 0, 0, 0, 0, 0)), b"stsh": full(b"stsh", 0, 0, be(4, 0)),
               b"padb": full(b"padb", 0, 0, be(4, 0)), b"stdp": full(b"stdp", 0, 0, be(2, 0)),
@@ -367,11 +429,11 @@ def twice():
                    b"gmhd": box(b"gmhd")}.get(name, full(name, 0, 0, bytes(16 if name == b"hmhd" else 0)))
         again = name == b"vmhd"
         case("minf", "vmhd, smhd, hmhd, sthd, nmhd, gmhd", put(b"minf", content), name,
-             f"{minf}/{name.decode()}{'[1]' if again else ''}", 2, int(again))
+             f"{minf}/{name.decode()}{'[1]' if again else ''}", int(again), None if again else b"vmhd")
     case("minf", "dinf", put(b"minf", box(b"dinf", full(b"dref", 0, 0, be(4, 0)))), b"dinf", f"{minf}/dinf[1]")
     case("minf", "stbl", put(b"minf", table), b"stbl", f"{minf}/stbl[1]")
     data = full(b"hdlr", 0, 0, b"dhlr" + b"alis" + bytes(12) + b"\0")
-    case("minf", "hdlr", put(b"minf", data * 2), b"hdlr", f"{minf}/hdlr[1]", 2, 2)
+    case("minf", "hdlr", put(b"minf", data * 2), b"hdlr", f"{minf}/hdlr[1]", 2)
     mdia = "moov/trak/mdia"
     case("mdia", "mdhd", put(b"mdia", mdhd(1, b"und")), b"mdhd", f"{mdia}/mdhd[1]")
     case("mdia", "hdlr", put(b"mdia", handler(b"vide", b"")), b"hdlr", f"{mdia}/hdlr[1]")
@@ -389,8 +451,8 @@ def twice():
         content = full(b"iods", 0, 0, bytes(4)) if name == b"iods" else box(name)
         case("moov", name.decode(), put(b"moov", content * 2), name, f"moov/{name.decode()}[1]")
     case("moov", "meta", put(b"moov", items * 3), b"meta", "moov/meta[1]")
-    said = "this is number 3, and a moov may have only one meta"
-    found[-1][2].append(line(found[-1][1], b"meta", "moov/meta[2]", said, 2))
+    data = found[-1][1]
+    found[-1][2].append(line(data, b"meta", "moov/meta[2]", said("moov", "meta", at(data, b"meta", 1)), 2))
     found.append(("two tracks", front() + moov(trak(table, 1), trak(table, 2)), []))
     mfhd = full(b"mfhd", 0, 0, be(4, 1))
     for name, content in ((b"mfhd", mfhd), (b"meta", items * 2), (b"udta", box(b"udta") * 2)):
@@ -441,7 +503,7 @@ def ends():
         place, path = len(data) - 4, "/".join(name.decode() for name in names)
         lines = [f"{MEDIA + 40} moov: there is no mvhd"]
         if names[-1] == b"trak":
-            lines.append(f"{MEDIA + 48} moov/trak: there is no tkhd, no mdia")
+            lines += [f"{MEDIA + 48} moov/trak: there is no {it}" for it in ("tkhd", "mdia")]
         bad.append((f"no end: {path}", data, [*lines, f"{place} {path}/-: unexpected end of input"]))
     data = front() + moov(table) + bytes(4)
     bad.append(("no end: the file", data, [f"{len(data) - 4} -: unexpected end of input"]))
@@ -461,15 +523,238 @@ def foreign():
             ("a line", b"Hi\nthere, you", "here", r"it begins with Hi\x0at"),
             ("five bytes", b"hello", "-", "it has only 5 bytes"), ("a byte", b"\0", "-", "it has only 1 byte")):
         found.append((f"not MP4: {name}", data, [f"0 {path}: this is not an MP4 file: {said}", none]))
-    cut = "unexpected end of input"
-    found.append(("an ftyp that is cut", ftyp(b"isom", b"isom")[:12], [f"0 ftyp: {cut}", none]))
-    found.append(("a size that is damaged", be(4, 2**31) + ftyp(b"isom")[4:] + moov(), [f"0 ftyp: {cut}", none]))
+    found.append(("an ftyp that is cut", ftyp(b"isom", b"isom")[:12], [f"0 ftyp: {lost('ftyp', 20, 12)}", none]))
+    large = be(4, 2**31) + ftyp(b"isom")[4:] + moov()
+    found.append(("a size that is damaged", large, [f"0 ftyp: {lost('ftyp', 2**31, len(large))}", none]))
     other = box(b"abcd", bytes(4)) + front(0)
     found.append(("a code that is damaged", other, [none]))
     late = front(0) + b"Hello world"
-    found.append(("text at the end", late, [f"{MEDIA} o wo: {cut}", none]))
+    declared = number_at(b"Hell", 0, 4)
+    found.append(("text at the end", late, [f"{MEDIA} o wo: {lost('o wo', declared, 11)}", none]))
+    return found
+
+
+def overlaps():
+    """Returns cases of chunks that share bytes with the chunk before them."""
+    found = []
+    for name, offsets, sizes, said in (
+            ("one after the other", [MEDIA, MEDIA + 10], [10, 10], None),
+            ("a byte", [MEDIA, MEDIA + 9], [10, 10], ("1 chunk shares", 2, MEDIA + 9, MEDIA, MEDIA + 10)),
+            ("the first byte, backward", [MEDIA + 9, MEDIA], [10, 10],
+             ("1 chunk shares", 2, MEDIA, MEDIA + 9, MEDIA + 19)),
+            ("backward, without one", [MEDIA + 10, MEDIA], [10, 10], None),
+            ("the same chunk twice", [MEDIA, MEDIA], [10, 10], ("1 chunk shares", 2, MEDIA, MEDIA, MEDIA + 10)),
+            ("no bytes in a chunk", [MEDIA, MEDIA + 5], [10, 0], None),
+            ("no bytes around a chunk", [MEDIA + 5, MEDIA], [0, 10], None),
+            ("two of four", [MEDIA, MEDIA + 10, MEDIA + 15, MEDIA + 16], [10, 10, 10, 10],
+             ("2 chunks share", 3, MEDIA + 15, MEDIA + 10, MEDIA + 20)),
+            ("not with the chunk before", [MEDIA, MEDIA + 20, MEDIA + 5], [10, 10, 10], None)):
+        for wide in (False, True):
+            data = front() + moov(trak(stbl(offsets, sizes, 1, wide)))
+            code = b"co64" if wide else b"stco"
+            found.append((f"overlap: {name}, {code.decode()}", data, [
+                line(data, code, f"{STBL}/{code.decode()}", shares(*said))] if said else []))
+    # Tables that disagree don't say which bytes a chunk has.
+    data = front() + moov(trak(stbl([MEDIA, MEDIA], [9] * 5, 2)))
+    found.append(("overlap: tables that disagree", data, [
+        line(data, b"stbl", STBL, "the chunks hold 4 of 5 samples"),
+        line(data, b"stco", f"{STBL}/stco", shares("1 chunk shares", 2, MEDIA, MEDIA, MEDIA + 1))]))
+    return found
+
+
+def lasts(declared, said, found, scale):
+    return f"warning: the duration is {declared}, and {said} {found}, in ticks of 1/{scale} s"
+
+
+def durations():
+    """Returns cases of durations, each a second or nearly a second off, and of those that aren't known. A track has 200
+    samples of 10 ticks of 1/1000 s, which are 1200 ticks of the movie."""
+    table = stbl([MEDIA], [0] * 200, 200)
+    media, tracks, movie = "that of the samples", "that of the edits or the samples", "that of the longest track"
+    plain = front() + moov(trak(table))
+    found = [("durations: all right", plain, [])]
+
+    def off_by(off):
+        return f"{abs(off)} ticks too {'long' if off > 0 else 'short'}"
+
+    def changed(name, duration, data=plain):
+        place = at(data, name)
+        header = data[place:place + number_at(data, place, 4)]
+        return data.replace(header, lasting(header, duration))
+
+    for off, far in ((999, False), (1000, True), (-999, False), (-1000, True), (2**32 - 1 - 2000, False)):
+        data = changed(b"mdhd", 2000 + off)
+        found.append((f"durations: mdhd {off_by(off)}", data, [
+            line(data, b"mdhd", "moov/trak/mdia/mdhd", lasts(2000 + off, media, 2000, 1000))] if far else []))
+    for off, far in ((599, False), (600, True), (-599, False), (-600, True)):
+        data = changed(b"mvhd", 1200 + off, changed(b"tkhd", 1200 + off))
+        found.append((f"durations: tkhd {off_by(off)}", data, [
+            line(data, b"tkhd", "moov/trak/tkhd", lasts(1200 + off, tracks, 1200, 600))] if far else []))
+        data = changed(b"mvhd", 1200 + off)
+        found.append((f"durations: mvhd {off_by(off)}", data, [
+            line(data, b"mvhd", "moov/mvhd", lasts(1200 + off, movie, 1200, 600))] if far else []))
+    data = changed(b"mvhd", 7, changed(b"tkhd", 2**32 - 1))
+    found.append(("durations: tkhd and so mvhd unknown", data, []))
+    data = changed(b"mvhd", 2**32 - 1)
+    found.append(("durations: mvhd unknown", data, []))
+    wide = front() + moov(trak(table, 1, 1, tkhd(1, 0, 0, 1)))
+    found.append(("durations: a tkhd of version 1", wide, []))
+    data = changed(b"mvhd", 2**32 - 1, changed(b"tkhd", 2**32 - 1, wide))
+    found.append(("durations: a tkhd of version 1 with 2^32 - 1", data, [
+        line(data, b"tkhd", "moov/trak/tkhd", lasts(2**32 - 1, tracks, 1200, 600))]))
+    data = changed(b"mvhd", 2**32 - 1, changed(b"tkhd", 2**64 - 1, wide))
+    found.append(("durations: a tkhd of version 1, unknown", data, []))
+    # The movie is as long as its longest track, which is the first.
+    data = front() + moov(trak(table), trak(stbl([MEDIA], [0] * 10, 10), 2))
+    found.append(("durations: two tracks", data, []))
+    # Fragments may follow a movie with an mvex.
+    defaults = box(b"mvex", full(b"trex", 0, 0, be(4, 1, 1, 10, 7, 0)))
+    data = front() + moov(trak(table), defaults)
+    data = changed(b"mdhd", 9000, changed(b"tkhd", 9000, changed(b"mvhd", 90000, data)))
+    found.append(("durations: a movie with an mvex", data, []))
+    # Edits decide, and the last one may have no duration.
+    for name, edits, track, said in (
+            ("an edit", [600], 600, None), ("two edits", [300, 900], 1200, None),
+            ("edits of another duration", [300, 300], 1200, 600), ("an edit that is open", [0], 5000, None),
+            ("an open edit before the last", [0, 700], 100, 700), ("no entries", [], 1200, None),
+            ("no entries, another duration", [], 1800, 1200)):
+        rows = b"".join(be(4, edit, 0) + be(2, 1, 0) for edit in edits)
+        elst = box(b"edts", full(b"elst", 0, 0, be(4, len(edits)) + rows))
+        data = front() + moov(trak(table, 1, 1, None, elst))
+        data = changed(b"mvhd", track, changed(b"tkhd", track, data))
+        found.append((f"durations: {name}", data, [
+            line(data, b"tkhd", "moov/trak/tkhd", lasts(track, tracks, said, 600))] if said else []))
+    elst = box(b"edts", full(b"elst", 0, 0, be(4, 9)))
+    data = front() + moov(trak(table, 1, 1, None, elst))
+    data = changed(b"mvhd", 5000, changed(b"tkhd", 5000, data))
+    said = "elst entry_count indicates more entries than could fit in the box"
+    found.append(("durations: an elst that can't be read", data, [line(data, b"elst", "moov/trak/edts/elst", said)]))
+    # Tables that disagree, or a timescale of 0, say nothing about durations.
+    data = changed(b"mdhd", 90000, front() + moov(trak(stbl([MEDIA], [0] * 4, 3))))
+    found.append(("durations: tables that disagree", data, [
+        line(data, b"stbl", STBL, "the chunks hold 3 of 4 samples")]))
+    still = plain.replace(be(4, 1000, 2000), be(4, 0, 2000))
+    found.append(("durations: a timescale of 0", changed(b"mvhd", 9000, changed(b"tkhd", 9000, still)), []))
+    return found
+
+
+def sets():
+    """Returns cases of the parameter sets in an `avcC`."""
+    found = []
+
+    def avcc(sps, pps):
+        counted = lambda units: b"".join(be(2, len(unit)) + unit for unit in units)
+        return box(b"avcC", bytes([1, 66, 0, 30, 0xFF, 0xE0 | len(sps)]) + counted(sps) + bytes([len(pps)])
+                   + counted(pps))
+
+    old = visual(b"mp4v", 64, 48, b"", b"")
+    for code in (b"avc1", b"avc2", b"avc3", b"avc4", b"encv"):
+        for name, sps, pps in (("all", [b"g"], [b"h"]), ("no sps", [], [b"h"]), ("no pps", [b"g"], []),
+                               ("none", [], []), ("empty ones", [b""], [b""])):
+            table = stbl([MEDIA], [1])
+            grown = table.replace(stsd(old), stsd(visual(code, 64, 48, b"", avcc(sps, pps))))
+            data = front() + moov(trak(be(4, len(grown)) + grown[4:]))
+            is_wrong = code in (b"avc1", b"avc2") and not (sps and pps)
+            found.append((f"sets: {code.decode()}, {name}", data, [
+                line(data, b"avcC", f"{STBL}/stsd/{code.decode()}/avcC",
+                     "there is no sequence parameter set or no picture parameter set")] if is_wrong else []))
+    return found
+
+
+def references():
+    """Returns cases of data references of each kind: those whose flag says that the media are in this file, and others.
+    The chunk of the track is in no media data."""
+    found = []
+    table = stbl([3], [1])
+    for name in (b"url ", b"urn ", b"alis", b"rsrc", b"abcd"):
+        for flags, is_here in ((1, True), (0, False), (2, False), (3, True)):
+            data = front() + moov(trak(table)).replace(full(b"url ", 0, 1), full(name, 0, flags))
+            said = lies("chunk 1 at offset 3, which is in no mdat")
+            found.append((f"references: {name.decode()}, {flags}", data, [
+                line(data, b"stco", f"{STBL}/stco", said)] if is_here else []))
+    # A box of this code in another box is no data reference.
+    data = front() + moov(trak(table, 1, 1, None, box(b"udta", full(b"url ", 0, 0))))
+    found.append(("references: a url in a udta", data, [
+        line(data, b"stco", f"{STBL}/stco", lies("chunk 1 at offset 3, which is in no mdat"))]))
+    # The references may follow the sample table.
+    whole = trak(table)
+    dinf = box(b"dinf", full(b"dref", 0, 0, be(4, 1) + full(b"url ", 0, 0)))
+    same = box(b"dinf", full(b"dref", 0, 0, be(4, 1) + full(b"url ", 0, 1)))
+    found.append(("references: after the tables", front() + moov(whole.replace(same + table, table + dinf)), []))
+    return found
+
+
+def times():
+    """Returns cases of the times of fragments."""
+    styp = box(b"styp", b"msdh" + be(4, 0))
+    found = []
+
+    def goes_back(time, earlier):
+        return f"warning: the fragment starts at {time}, and the fragment of this track before it at {earlier}"
+
+    def part(track, time):
+        return traf(track, 0x20000, b"", full(b"tfdt", 0, 0, be(4, time)) if time is not None else b"")
+
+    def case(name, moofs, said=(), path=None, which=0):
+        data = styp + b"".join(moof(*(part(*it) for it in trafs)) for trafs in moofs)
+        lines = [line(data, b"tfdt", path, goes_back(*said), which)] if said else []
+        found.append((f"times: {name}", data, lines))
+
+    case("forward", [[(1, 0)], [(1, 10)], [(1, 20)]])
+    case("the same", [[(1, 10)], [(1, 10)]])
+    case("back", [[(1, 10)], [(1, 9)]], (9, 10), "moof[1]/traf/tfdt", 1)
+    case("back after a fragment without a time", [[(1, 10)], [(1, None)], [(1, 9)]], (9, 10), "moof[2]/traf/tfdt", 1)
+    case("two tracks", [[(1, 10)], [(2, 5)], [(1, 20)], [(2, 6)]])
+    case("in one moof", [[(1, 10), (2, 20), (1, 5)]], (5, 10), "moof/traf[2]/tfdt", 2)
+    case("back once, then on from there", [[(1, 10)], [(1, 4)], [(1, 6)]], (4, 10), "moof[1]/traf/tfdt", 1)
+    wide = styp + moof(traf(1, 0x20000, b"", full(b"tfdt", 1, 0, be(8, 2**33)))) + moof(part(1, 7))
+    found.append(("times: 64 bits", wide, [line(wide, b"tfdt", "moof[1]/traf/tfdt", goes_back(7, 2**33), 1)]))
+    return found
+
+
+def indexes():
+    """Returns cases of the sizes in a segment index."""
+    styp = box(b"styp", b"msdh" + be(4, 0))
+    segment = moof(traf(1, 0x20000, b""))
+    media = box(b"mdat", bytes(12))
+    found = []
+
+    def sidx(first, *sizes, kind=0):
+        return full(b"sidx", 0, 0, be(4, 1, 1000, 0, first) + be(2, 0, len(sizes)) + b"".join(
+            be(4, kind * 2**31 + size, 10, 0) for size in sizes))
+
+    one = len(segment) + len(media)
+
+    def case(name, data, before=None, position=None, path="sidx", which=0):
+        many = "subsegment" if before == 1 else "subsegments"
+        found.append((f"indexes: {name}", data, [] if before is None else [
+            line(data, b"sidx", path, f"after {before} {many} the index is at {position}, where no box begins and the "
+                 "file doesn't end", which)]))
+
+    begin = len(styp) + len(sidx(0, 0))
+    case("all right", styp + sidx(0, one) + segment + media)
+    case("a byte too many", styp + sidx(0, one + 1) + segment + media, 1, begin + one + 1)
+    case("a byte too few", styp + sidx(0, one - 1) + segment + media, 1, begin + one - 1)
+    case("up to the end of the moof", styp + sidx(0, len(segment)) + segment + media)
+    two = begin + 12
+    case("two", styp + sidx(0, one, one) + segment + media + segment + media)
+    case("two, the first wrong", styp + sidx(0, one + 4, one - 4) + segment + media + segment + media, 1, two + one + 4)
+    case("two, the second wrong", styp + sidx(0, one, one - 4) + segment + media + segment + media, 2,
+         two + 2 * one - 4)
+    case("a gap before the first", styp + sidx(16, one) + box(b"free", bytes(8)) + segment + media)
+    case("a gap of another size", styp + sidx(15, one) + box(b"free", bytes(8)) + segment + media, 0, begin + 15)
+    case("no subsegments", styp + sidx(7) + segment + media)
+    case("no fragments", styp + sidx(0, 99) + media)
+    inner = sidx(0, one)
+    outer = styp + sidx(0, len(inner) + one, kind=1) + inner + segment + media
+    case("an index of an index", outer)
+    case("the second of two", styp + sidx(len(inner), one) + sidx(0, one + 2) + segment + media, 1,
+         len(styp) + 2 * len(inner) + one + 2, "sidx[1]", 1)
+    large = full(b"sidx", 1, 0, be(4, 1, 1000) + be(8, 0, 2**64 - 1) + be(2, 0, 1) + be(4, one, 10, 0))
+    case("an offset of 2^64 - 1", styp + large + segment + media, 0, 2**64 - 1)
     return found
 
 
 def cases():
-    return [*chunks(), *more_chunks(), *fragments(), *kinds(), *tracks(), *lacks(), *twice(), *ends(), *foreign()]
+    return [*chunks(), *more_chunks(), *overlaps(), *references(), *fragments(), *times(), *indexes(), *kinds(),
+            *tracks(), *durations(), *sets(), *lacks(), *twice(), *ends(), *foreign()]

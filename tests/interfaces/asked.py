@@ -228,7 +228,7 @@ def check(asked, answer):
         for name in ("tkhd", "mdia/hdlr", "mdia/mdhd"):
             for position, text in lines.get(f"{trak}/{name}", []):
                 is_known = any(it.position == position and it.text is None for it in problems)
-                if not is_known and not re.match("this is number|track_ID", text):
+                if not is_known and not re.match("warning: |track_ID", text):
                     yield f"{trak}/{name}: {text}"
         one = answer.first(track.track_id)
         if isinstance(track.track_id, int) and one is not track and track.track_id:

@@ -7,7 +7,8 @@
 - Short files, each with lines that were typed by hand (short.py).
 - Every beginning of the plain and of the fragmented file, in which each whole box has its lines from the whole file.
 - Files with damage.
-- Files with one fault each for `check`, and files that are close to one, with their lines (faulty.py).
+- The faults of each for `check`, beside a third computation (readers/check.py). Files with one fault each are in
+  test_check.py.
 - The JSON of each is parsed back and checked against docs/inspect.schema.json.
 - Arguments, several files, files and ends that fail, names that are not UTF-8, pipes that are closed, standard input, a
   terminal's width and colours, large files, boxes a thousand deep, boxes that end far away.
@@ -30,11 +31,12 @@ import time
 import unittest
 
 from tests.built import built, number
-from tests.files import faulty, made, short
+from tests.files import made, short
 from tests.files.inspected import called, check_schema, damaged, files, load, schema, text_of_tree
 from tests.files.made import in_chunks, in_fragment, in_runs
 from tests.files.stored import FILES, stored
-from tests.readers.inspect import document, every, faults, is_escaped, is_faulty, lines, tree
+from tests.readers import check
+from tests.readers.inspect import document, every, is_escaped, is_faulty, lines, tree
 from tests.readers.samples import written
 
 USAGE = "Usage: "
@@ -54,6 +56,7 @@ class Runs:
     def __init__(self, program, folder):
         self.program, self.folder, self.count = program, folder, 0
         self.names, self.schema, self.samples_schema = called(), schema("inspect"), schema("samples")
+        self.check_schema = schema("check")
 
     def run(self, *arguments, **ends):
         self.count += 1
@@ -108,10 +111,20 @@ class Runs:
             pair = [[json.dumps(box, sort_keys=True) for box, _ in every(file["boxes"])]
                     for file in (found[0], document("-", boxes))]
             self.same(*pair, what + ", JSON")
-        wanted_faults = faults(data, boxes)
-        self.same(self.out(int(bool(wanted_faults)), "check", "-", input=data).split("\n"), [*wanted_faults, ""],
-                  what + ", faults")
+        self.checked(data, boxes, what)
         return wanted
+
+    def checked(self, data, boxes, what):
+        """Compares the lines and the objects of the faults that the program finds in `data` with the second
+        computation."""
+        found = check.faults(data, boxes)
+        text = self.out(check.status(found), "check", "-", input=data)
+        self.same(text.split("\n"), [*check.lines(found), ""], what + ", faults")
+        text = self.out(check.status(found, True), "check", "--json", "--strict", "-", input=data)
+        objects = load(text)
+        check_schema(objects, self.check_schema, self.check_schema)
+        self.same([json.dumps(it) for it in objects], [json.dumps({"file": "-", **it}) for it in found],
+                  what + ", faults as JSON")
 
     def sampled(self, data, what, chosen=None, path="-", beyond=False):
         """Compares the samples that the program shows for `data` in each form with the second computation: rows,
@@ -238,7 +251,7 @@ def arguments(runs, folder):
     if found != [document("plain.mp4", boxes), document("cut.mp4", tree(short))]:
         fail("the JSON of two files is not that of each")
     wanted = "".join(f"{name}: {line}\n" for name, data in (("plain.mp4", plain), ("cut.mp4", short))
-                     for line in faults(data, tree(data)))
+                     for line in check.lines(check.faults(data, tree(data))))
     if runs.out(1, "check", "plain.mp4", "cut.mp4") != wanted:
         fail("the faults of two files are not those of each")
     for words, names in ((["none.mp4", "plain.mp4"], ["none.mp4"]), ([".", "plain.mp4"], ["."])):
@@ -273,7 +286,7 @@ def names(runs, folder):
     refused = "this name is not UTF-8, and only names that are can be opened\n"
     cafe, said = b"caf\xe9\x1b.mp4", "mp4inspect: caf\\xe9\\u{1b}.mp4: " + refused
     write_file(folder, os.fsdecode(cafe), plain)
-    of_cut, of_plain = ("".join(f"{name}: {line}\n" for line in faults(data, tree(data)))
+    of_cut, of_plain = ("".join(f"{name}: {line}\n" for line in check.lines(check.faults(data, tree(data))))
                         for name, data in (("cut.mp4", cut), ("plain.mp4", plain)))
     for words, out in (
             (["check", "cut.mp4", cafe, "plain.mp4"], of_cut + of_plain), ([cafe, "plain.mp4"], f"plain.mp4:\n{text}"),
@@ -562,12 +575,6 @@ class Inspect(unittest.TestCase):
         self.runs.same(self.runs.out(0, "-", input=data).split("\n"), [*wanted, ""], name)
         self.runs.compared(data, name)
 
-    def of_faulty_file(self, name, data, wanted):
-        """Compares the faults of a file with the lines that were worked out for it, and all other output."""
-        found = self.runs.out(int(bool(wanted)), "check", "-", input=data)
-        self.runs.same(found.split("\n"), [*wanted, ""], f"check, {name}")
-        self.runs.compared(data, f"check, {name}")
-
     def test_each_beginning_of_the_plain_file(self):
         cuts(self.runs, "plain")
 
@@ -628,8 +635,6 @@ for one in files():
     add(f"file_{one}", Inspect.of_file, one)
 for one in short.cases():
     add(f"short_{one[0]}", Inspect.of_short_file, *one)
-for one in faulty.cases():
-    add(f"check_{one[0]}", Inspect.of_faulty_file, *one)
 
 if __name__ == "__main__":
     unittest.main()

@@ -1,1 +1,15 @@
-pub mod FaultLines
+pub mod Agreement
+pub mod ContentFaults
+pub mod Facts
+pub mod FaultLoops
+pub mod FileSteps
+pub mod IndexSteps
+pub mod MediaOrder
+pub mod MetTracks
+pub mod MissingParts
+pub mod OpenPaths
+pub mod Outcomes
+pub mod Pairs
+pub mod RunPieces
+pub mod ShownFaults
+pub mod Steps

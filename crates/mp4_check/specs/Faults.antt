@@ -1,97 +1,89 @@
--- The boxes of a file for which `mp4inspect check` writes lines, and the beginnings of these lines.
-use Rattle.std.specs.Prelude.{◌≡◌, ℕ, ◌||◌, Bool, true, false, List, [], ◌∷◌, ◌++◌, codes, decimal, Some, IfSome}
-use Rattle.std.specs.Prelude.{⊤}
+-- All faults of a file, in the order in which `mp4inspect check` writes them: first those of single boxes, then those
+-- of the tracks and of the movie, of the fragments and of the indexes, each in the order of the file, and at the end
+-- that of a file without a movie. docs/CHECK.md lists them.
+use Rattle.std.specs.Prelude.{ℕ, ◌==◌, ◌&&◌, Bool, false, List, [], ◌++◌, length, is_some, None, Some}
 use Rattle.std.specs.Prelude.{if◌then◌else◌}
+use Rattle.std.specs.List.{list_any}
 use Rattle.std.specs.declared.option.Option.{Option}
-use Rattle.std.specs.Io.KnownBytes.{Appends}
+use Rattle.mp4_check.specs.BoxFaults.{faults_of_boxes}
+use Rattle.mp4_check.specs.FaultValues.{Value, fault_at}
+use Rattle.mp4_check.specs.FragmentFaults.{File, fragment_faults}
+use Rattle.mp4_check.specs.Headers.{movie_times}
+use Rattle.mp4_check.specs.Indexes.{index_faults}
+use Rattle.mp4_check.specs.Lines.{Writes}
+use Rattle.mp4_check.specs.Media.{media_of}
+use Rattle.mp4_check.specs.Parts.{is_file}
+use Rattle.mp4_check.specs.Paths.{in_file}
+use Rattle.mp4_check.specs.TrackFaults.{Facts, faults_of_tracks, longest_track, movie_faults}
+use Rattle.mp4_check.specs.declared.fault.What.{What}
+use Rattle.mp4_check.specs.declared.fault.What.TheVariants as what
+use Rattle.mp4_check.specs.declared.lines.Form.{Form}
+use Rattle.mp4_check.specs.declared.lines.Told.{Told}
+use Rattle.mp4_extra_segments.specs.declared.sidx.Sidx.{Sidx}
+use Rattle.mp4_frame.specs.FourCC.{four_cc_of, number_of}
 use Rattle.mp4_frame.specs.Reading.{Reading}
 use Rattle.mp4_frame.specs.declared.box_type.BoxType.{BoxType}
-use Rattle.mp4_content.specs.Content.{ShowsAs}
-use Rattle.mp4_content.specs.Kind.{kind_of}
-use Rattle.mp4_content.specs.declared.content.Content.{Content}
-use Rattle.mp4_content.specs.declared.content.Content.TheVariants as contents
+use Rattle.mp4_frame.specs.declared.codes.TheConstants as codes
+use Rattle.mp4_frame.specs.declared.four_cc.FourCC.{FourCC}
+use Rattle.mp4_movie.specs.Levels.{after_of, first_in}
+use Rattle.mp4_movie.specs.Movies.{traks}
 use Rattle.mp4_walk.specs.FileBoxes.{boxes_of}
 use Rattle.mp4_walk.specs.declared.tree_box.TreeBox.{TreeBox}
 
--- a line: a position, a path and a text
-abbrev pub line_text : ℕ → List ℕ → List ℕ → List ℕ
-line_text position path said = decimal position ++ (codes " " ++ (path ++ (codes ": " ++ (said ++ 10 ∷ []))))
+abbrev pub is_file_code : Option FourCC → Bool
+is_file_code None = false
+is_file_code (Some code) = is_file (number_of code)
 
--- a line of this box
-abbrev pub IsLine : TreeBox → List ℕ → Type 0
-IsLine found line = (path said : List ℕ) × (line ≡ line_text found.position path said)
+-- a box of the top level for which a file may be made
+abbrev pub is_top_file : TreeBox → Bool
+is_top_file x = (x.depth == 0) && is_file_code x.code
 
--- the beginning of each line of the file and a line of this box, or nothing
-abbrev pub IsLineIf : Bool → List ℕ → TreeBox → List ℕ → Type 0
-IsLineIf true front found text = (line : List ℕ) × IsLine found line × (text ≡ front ++ line)
-IsLineIf false front found text = text ≡ []
+abbrev pub lacks_movie : List TreeBox → Option What
+lacks_movie boxes = if list_any is_top_file boxes then None else Some what.NoMovie
 
-abbrev pub told_text : Bool → List ℕ → List ℕ → List ℕ
-told_text told front line = if told then front ++ line else []
+-- the boxes after the header of the first `moov`
+abbrev pub movie_in : List TreeBox → List TreeBox
+movie_in boxes = after_of (first_in 0 (four_cc_of codes.MOOV) boxes)
 
--- whether the content of a box has a line. A fault has one, and a box that the codec does not read has none. A box that
--- the codec reads may have one, for chunks outside the media data or for its track_ID
-abbrev pub IsTold : {A : Type 0} → Content A → Bool → Type 0
-IsTold (contents.Faulty fault) told = told ≡ true
-IsTold (contents.Known value) told = ⊤
-IsTold _ told = told ≡ false
+abbrev pub facts_of : List ℕ → List TreeBox → Facts
+facts_of file boxes = record {
+  media = media_of (length file) boxes;
+  length = length file;
+  times = movie_times file (movie_in boxes);
+  fragmented = is_some (first_in 1 (four_cc_of codes.MVEX) (movie_in boxes));
+}
 
--- the lines of a box besides the line of its content, each of which may be missing: that it is one too many, the boxes
--- that it lacks, and the faults of its samples; and whether there is one
-abbrev pub AreMore : List ℕ → TreeBox → List ℕ → Bool → Type 0
-AreMore front found text faulty =
-    (one two three : List ℕ) × (repeated lacks outside : Bool)
-    × IsLineIf repeated front found one × IsLineIf lacks front found two × IsLineIf outside front found three
-    × (text ≡ one ++ (two ++ three)) × (faulty ≡ (repeated || (lacks || outside)))
+abbrev pub file_of : List ℕ → List TreeBox → File
+file_of file boxes =
+    record { bytes = file; boxes = boxes; media = media_of (length file) boxes; length = length file }
 
--- the lines of a box: at most one for its content, and the others; and whether there is a line. If the bytes of the
--- file are known, they and the kind of the box decide the content
-abbrev pub AreLines : {A : Type 0} → (BoxType → Bool) → (BoxType → List ℕ → ℕ → ℕ → Reading A) → Option (List ℕ)
-    → List ℕ → TreeBox → List ℕ → Bool → Type 0
-AreLines {A} known reading bytes front found text faulty =
-    (content : Content A) × (first rest : List ℕ) × (told more : Bool)
-    × IfSome bytes (λ B. ShowsAs known reading B found (kind_of known found) content)
-    × IsTold content told × IsLineIf told front found first × AreMore front found rest more
-    × (text ≡ first ++ rest) × (faulty ≡ (told || more))
+-- the faults of the tracks of a file with these boxes, and of its movie
+abbrev pub tracks_faults : List ℕ → List TreeBox → List Value
+tracks_faults file boxes =
+    faults_of_tracks file (facts_of file boxes) [] 0 (traks boxes)
+    ++ movie_faults (facts_of file boxes) (longest_track file (traks boxes))
 
--- the lines of boxes, in order
-abbrev pub Faults : {A : Type 0} → (BoxType → Bool) → (BoxType → List ℕ → ℕ → ℕ → Reading A) → Option (List ℕ)
-    → List ℕ → List TreeBox → List ℕ → Bool → Type 0
-Faults known reading bytes front [] text faulty = (text ≡ []) × (faulty ≡ false)
-Faults known reading bytes front (found ∷ boxes) text faulty =
-    (first rest : List ℕ) × (here there : Bool) × AreLines known reading bytes front found first here
-    × Faults known reading bytes front boxes rest there
-    × (text ≡ first ++ rest) × (faulty ≡ (here || there))
+-- the faults of a file with these boxes. Boxes with these names are read in this way, and an index in that
+abbrev pub faults_in : {A : Type 0} → (BoxType → Bool) → (BoxType → List ℕ → ℕ → ℕ → Reading A)
+    → (List ℕ → ℕ → ℕ → Reading Sidx) → List ℕ → List TreeBox → List Value
+faults_in known reading reads_sidx file boxes =
+    faults_of_boxes known reading file [] boxes
+    ++ (tracks_faults file boxes
+    ++ (fragment_faults (file_of file boxes)
+    ++ (index_faults reads_sidx file boxes (length file)
+    ++ fault_at 0 (in_file codes.MOOV 0) (lacks_movie boxes))))
 
--- the lines of a box besides the line of its content are written, and whether there are any
-abbrev pub WritesMore : List ℕ → TreeBox → Option (List ℕ) → Option (List ℕ) → Bool → Type 0
-WritesMore front found old new faulty = (text : List ℕ) × AreMore front found text faulty × Appends old new text
+-- the faults of a file
+abbrev pub faults_of : {A : Type 0} → (BoxType → Bool) → (BoxType → List ℕ → ℕ → ℕ → Reading A)
+    → (List ℕ → ℕ → ℕ → Reading Sidx) → List ℕ → List Value
+faults_of known reading reads_sidx file = faults_in known reading reads_sidx file (boxes_of file)
 
--- the lines of a box are written, and whether there are any
-abbrev pub WritesLines : {A : Type 0} → (BoxType → Bool) → (BoxType → List ℕ → ℕ → ℕ → Reading A) → Option (List ℕ)
-    → List ℕ → TreeBox → Option (List ℕ) → Option (List ℕ) → Bool → Type 0
-WritesLines known reading bytes front found old new faulty =
-    (text : List ℕ) × AreLines known reading bytes front found text faulty × Appends old new text
+-- before the first fault of a file, after faults of other files if there were any
+abbrev pub told_before : Bool → Told
+told_before any = record { any = any; failures = false; warnings = false }
 
--- the lines of boxes are written, and whether there are any
-abbrev pub WritesFaults : {A : Type 0} → (BoxType → Bool) → (BoxType → List ℕ → ℕ → ℕ → Reading A) → Option (List ℕ)
-    → List ℕ → List TreeBox → Option (List ℕ) → Option (List ℕ) → Bool → Type 0
-WritesFaults known reading bytes front boxes old new faulty =
-    (text : List ℕ) × Faults known reading bytes front boxes text faulty × Appends old new text
-
--- the line of a file that has no movie, if it has none
-abbrev pub movie_text : Bool → List ℕ → List ℕ
-movie_text lacks front = told_text lacks front (codes "0 moov: there is no moov, moof, meta or sidx\n")
-
--- all lines of a file are written, each with the same front, and whether there are any
-abbrev pub WritesAllFaults : {A : Type 0} → (BoxType → Bool) → (BoxType → List ℕ → ℕ → ℕ → Reading A)
-    → Option (List ℕ) → List TreeBox → Option (List ℕ) → Option (List ℕ) → Bool → Type 0
-WritesAllFaults known reading bytes boxes old new faulty =
-    (front text : List ℕ) × (here lacks : Bool) × Faults known reading bytes front boxes text here
-    × Appends old new (text ++ movie_text lacks front) × (faulty ≡ (here || lacks))
-
--- the lines of a file with these bytes are written, and whether there are any
-abbrev pub WritesCheck : {A : Type 0} → (BoxType → Bool) → (BoxType → List ℕ → ℕ → ℕ → Reading A) → List ℕ
-    → Option (List ℕ) → Option (List ℕ) → Bool → Type 0
-WritesCheck known reading bytes old new faulty =
-    WritesAllFaults known reading (Some bytes) (boxes_of bytes) old new faulty
+-- the faults of a file are written, and no others, and this is told of them
+abbrev pub WritesCheck : {A : Type 0} → (BoxType → Bool) → (BoxType → List ℕ → ℕ → ℕ → Reading A)
+    → (List ℕ → ℕ → ℕ → Reading Sidx) → Form → Bool → List ℕ → Option (List ℕ) → Option (List ℕ) → Told → Type 0
+WritesCheck known reading reads_sidx form any file old new told =
+    Writes form (told_before any) (faults_of known reading reads_sidx file) old new told

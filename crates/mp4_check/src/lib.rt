@@ -1,26 +1,38 @@
-//! For programs that check files: `write_faults` writes a line for each fault of a file. The rules that concern more
-//! than one box are functions of values that their caller has read.
+//! For programs that check files: `write_faults` writes each fault of a file, as a line or as a JSON object. A fault is
+//! a value, `Fault`, from which its words are made last. docs/CHECK.md lists the faults.
 #![tactic(auto)]
 
-mod box_path;
-mod chunks;
+mod box_faults;
+mod contents;
+mod duration;
 mod extent;
-mod facts;
+mod fault;
 mod faults;
+mod fragments;
+mod headers;
+mod indexes;
+mod lines;
+mod media;
+mod outside;
+mod overlap;
 mod parts;
-mod runs;
-mod sample_tables;
-mod sizes;
-mod tally;
+mod path;
+mod references;
+mod siblings;
+mod tables;
 mod track_search;
 mod tracks;
-mod traf_runs;
+mod trafs;
+mod unreadable;
+mod words;
 
+pub use duration::{Duration, Times, converted, duration_fault, longer, unknown};
 pub use extent::{Extent, Lies, whereabouts};
+pub use fault::{Code, Fault, Reason, Severity, What};
 pub use faults::write_faults;
+pub use lines::{Form, Told};
+pub use outside::{Outside, Stray};
+pub use overlap::{Overlap, chunks_overlap};
 pub use parts::{group_of, is_file, is_part, needed};
-pub use runs::{Run, run_begin, run_size};
-pub use sizes::chunk_sizes;
-pub use tally::{Stray, Tally, no_chunks};
+pub use path::{BoxPaths, Part};
 pub use track_search::track_at;
-pub use tracks::{TrackFault, header_fault, track_fault};

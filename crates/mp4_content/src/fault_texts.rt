@@ -53,22 +53,30 @@ fn push_front(size: u32, code: u32, out: &mut String) -> Result<()> {
     }
 }
 
+/// Appends to `out` that a file is not an MP4 file, and `why`.
+pub fn push_foreign(why: NotMp4, out: &mut String) -> Result<()> {
+    out.push_str("this is not an MP4 file: it ")?;
+    match why {
+        NotMp4::Short(length) => {
+            out.push_str("has only ")?;
+            push_number(length, out)?;
+            out.push_str(if length == 1 { " byte" } else { " bytes" })?;
+            Ok(())
+        }
+        NotMp4::Begins(size, code) => {
+            out.push_str("begins with ")?;
+            push_front(size, code, out)
+        }
+    }
+}
+
 /// Returns the text of a fault of the box `found`: that the file is not an MP4 file, if the box shows that, or the text
 /// of `fault`.
 pub fn fault_text(alloc: Global, found: &TreeBox, fault: &Error) -> Result<String> {
+    let Some(why) = not_mp4(found) else {
+        return format!(in alloc; "{fault}");
+    };
     let mut text = String::new(alloc);
-    match not_mp4(found) {
-        Some(NotMp4::Short(length)) => {
-            text.push_str("this is not an MP4 file: it has only ")?;
-            push_number(length, &mut text)?;
-            text.push_str(if length == 1 { " byte" } else { " bytes" })?;
-            Ok(text)
-        }
-        Some(NotMp4::Begins(size, code)) => {
-            text.push_str("this is not an MP4 file: it begins with ")?;
-            push_front(size, code, &mut text)?;
-            Ok(text)
-        }
-        None => format!(in alloc; "{fault}"),
-    }
+    push_foreign(why, &mut text)?;
+    Ok(text)
 }

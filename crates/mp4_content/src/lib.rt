@@ -13,7 +13,7 @@ mod terminator;
 
 pub use content::{Content, content_of, put_content};
 pub use failure::or_memory;
-pub use fault_texts::fault_text;
+pub use fault_texts::{fault_text, push_foreign};
 pub use for_prover::either;
 pub use foreign::{NotMp4, not_mp4};
 pub use kind::{Kind, kind_of};

@@ -29,9 +29,6 @@ pub trait Shown: BoxFields + Drop {
         requires known { IsTrue (known name) }
         requires after_header { 8 ≤ reader.old.position }
         ensures answer { Answers result (named_reading name reader.old.bytes.now (reader.old.position - 8) size) };
-
-    /// Returns the box as a box of the codec, if it is one.
-    fn any(&self) -> Option<&AnyBox>;
 }
 
 /// A box of the codec, or one of the extra boxes.
@@ -56,13 +53,6 @@ impl<A: StreamBox + HasFields> Shown for Either<A, AnyBox> {
             Ok(Either::First(A::read_named(alloc, name, reader, size)?))
         } else {
             Ok(Either::Second(AnyBox::read_named(alloc, name, reader, size)?))
-        }
-    }
-
-    fn any(&self) -> Option<&AnyBox> {
-        match self {
-            Either::First(_) => None,
-            Either::Second(any) => Some(any),
         }
     }
 }

@@ -1,3 +1,4 @@
+pub mod Checked
 pub mod Heading
 pub mod Json
 pub mod Opened

@@ -10,13 +10,13 @@ mod tree_json;
 mod tree_text;
 
 use mp4_command::{Kept, MISUSE, NOT_UTF_8, escaped, print_error, unreadable, words_of};
-use mp4_content::ShownBox;
+use mp4_content::{Shown, ShownBox};
 use mp4_inspect_samples::{Choice, Form};
 use mp4_io::{Failure, Input, Output, Steady, flush, or_read, read_all, write_all};
 use mp4_show::Look;
 use mp4_walk::Source;
 use outcome::{Outcome, is_silent};
-use program::{Show, inspect};
+use program::{Show, check_file, inspect};
 use request::{Request, Rows, Task, request_of};
 use source::{Reading, how_to_read, input_file};
 use std::alloc::AllocError;
@@ -116,21 +116,33 @@ fn refuse_empty(rt: &HostRuntime, shown: &str) -> Outcome {
 
 /// Writes the requested output for a file. The faults of its tracks, and the reason if it could not be read, are
 /// printed to standard error.
-fn inspect_source<S: Source, W: Write>(
+fn inspect_source<B: Shown, S: Source, W: Write>(
     rt: &HostRuntime,
     file: Named<'_>,
     source: S,
     show: Show,
     output: &mut Output<Steady<W>>,
+    any: &mut bool,
 ) -> Outcome {
     let mut source = Kept::new(source);
     let is_empty = show.task != Task::Samples && matches!(source.length(), Ok(0));
     let mut faults = Vec::new(rt.alloc());
     let name = match show.task {
         Task::Json => file.name,
+        Task::Check if show.checks.json => file.name,
         _ => file.shown,
     };
-    let run = inspect::<ShownBox, _, _>(rt.alloc(), name, &mut source, show, output, &mut faults);
+    let run = if show.task == Task::Check {
+        match check_file::<B, _, _>(rt.alloc(), name, &mut source, show, *any, output) {
+            Ok(checked) => {
+                *any = checked.any;
+                Ok(checked.faulty)
+            }
+            Err(failure) => Err(failure),
+        }
+    } else {
+        inspect::<B, _, _>(rt.alloc(), name, &mut source, show, output, &mut faults)
+    };
     for fault in &faults {
         let _ = eprintln!(rt; "mp4inspect: {}: {fault}", file.shown);
     }
@@ -159,10 +171,18 @@ fn inspect_stream<R: Read + Drop, W: Write>(
     reader: R,
     show: Show,
     output: &mut Output<Steady<W>>,
+    any: &mut bool,
 ) -> Outcome {
     let mut input = Input::new(Steady::new(reader));
     match read_all(rt.alloc(), &mut input) {
-        Ok(bytes) => inspect_source(rt, file, bytes.as_slice(), show, output),
+        Ok(bytes) => inspect_source::<ShownBox, _, _>(
+            rt,
+            file,
+            bytes.as_slice(),
+            show,
+            output,
+            any,
+        ),
         Err(failure) => {
             tell(rt, file.shown, failure, input.inner.error);
             Outcome::Failed
@@ -176,10 +196,11 @@ fn inspect_input<W: Write>(
     file: Named<'_>,
     show: Show,
     output: &mut Output<Steady<W>>,
+    any: &mut bool,
 ) -> Outcome {
     match input_file(rt) {
-        Some(source) => inspect_source(rt, file, source, show, output),
-        None => inspect_stream(rt, file, rt.stdin(), show, output),
+        Some(source) => inspect_source::<ShownBox, _, _>(rt, file, source, show, output, any),
+        None => inspect_stream(rt, file, rt.stdin(), show, output, any),
     }
 }
 
@@ -190,10 +211,11 @@ fn inspect_open<W: Write>(
     mut source: File,
     show: Show,
     output: &mut Output<Steady<W>>,
+    any: &mut bool,
 ) -> Outcome {
     match how_to_read(&mut source) {
-        Ok(Reading::Seeks) => inspect_source(rt, file, source, show, output),
-        Ok(Reading::Streams) => inspect_stream(rt, file, source, show, output),
+        Ok(Reading::Seeks) => inspect_source::<ShownBox, _, _>(rt, file, source, show, output, any),
+        Ok(Reading::Streams) => inspect_stream(rt, file, source, show, output, any),
         Ok(Reading::Directory) => refuse(rt, file.shown, "this is a directory, not a file"),
         Ok(Reading::Device) => refuse(rt, file.shown, "this is a device, not a file"),
         Err(error) => {
@@ -210,6 +232,7 @@ fn inspect_named<W: Write>(
     name: &str,
     show: Show,
     output: &mut Output<Steady<W>>,
+    any: &mut bool,
 ) -> Result<Outcome, AllocError> {
     if let Some(shown) = unreadable(name) {
         return Ok(refuse(rt, shown, NOT_UTF_8));
@@ -220,10 +243,10 @@ fn inspect_named<W: Write>(
         shown: shown.as_str(),
     };
     if name == "-" {
-        return Ok(inspect_input(rt, file, show, output));
+        return Ok(inspect_input(rt, file, show, output, any));
     }
     match fs::open(rt, name) {
-        Ok(source) => Ok(inspect_open(rt, file, source, show, output)),
+        Ok(source) => Ok(inspect_open(rt, file, source, show, output, any)),
         Err(error) => {
             let _ = eprintln!(rt; "mp4inspect: {shown}: {error}");
             Ok(Outcome::Failed)
@@ -241,7 +264,9 @@ fn inspect_all<W: Write>(
 ) -> Result<(), Failure> {
     let look = look_of(rt, request);
     let mut follows = false;
-    if request.task == Task::Json {
+    let mut any = false;
+    let is_array = request.task == Task::Json || request.checks.json;
+    if is_array {
         write_all(output, b"[")?;
     }
     for name in &request.files {
@@ -251,15 +276,16 @@ fn inspect_all<W: Write>(
             several: request.files.len() > 1,
             follows,
             samples: choice_of(request),
+            checks: request.checks,
         };
-        let here = inspect_named(rt, name.as_str(), show, output)?;
+        let here = inspect_named(rt, name.as_str(), show, output, &mut any)?;
         *outcome = outcome.or_worse(here);
         if output.failed {
             return Err(Failure::Write);
         }
         follows = follows || here != Outcome::Failed;
     }
-    if request.task == Task::Json {
+    if is_array {
         write_all(output, b"]\n")?;
     }
     flush(output)

@@ -3,6 +3,7 @@
 ghost use Rattle.std.specs.Prelude.{◌≡◌, ◌||◌, false, string_bytes, IfOk, OnOk, OnErr, IfSome};
 ghost use Rattle.std.specs.Io.KnownBytes.{Appends};
 ghost use Rattle.mp4_check.specs.Faults.{WritesCheck};
+ghost use Rattle.mp4_inspect.specs.Checked.{ChecksFile, form_of, is_bad};
 ghost use Rattle.mp4_inspect.specs.Heading.{heading_of};
 ghost use Rattle.mp4_inspect.specs.Json.{comma, WritesJson};
 ghost use Rattle.mp4_inspect.specs.Written.{WritesFile, BeginsFile};
@@ -11,11 +12,13 @@ ghost use Rattle.mp4_movie.specs.Infos.{AreInfos};
 ghost use Rattle.mp4_movie.specs.Movies.{traks};
 ghost use Rattle.mp4_walk.specs.FileBoxes.{boxes_of};
 
-use crate::request::Task;
+use crate::request::{Checks, Task};
 use crate::tree_json::tree_json;
 use crate::tree_text::write_tree;
-use mp4_check::write_faults;
+use mp4_check::{Form, Told, write_faults};
 use mp4_content::Shown;
+use mp4_extra::SidxBox;
+use mp4_frame::ReadBox;
 use mp4_inspect_samples::{Choice, TrackFault, write_samples};
 use mp4_io::{Failure, Output, or_read, write_all};
 use mp4_movie::{Movie, TrackInfo};
@@ -37,6 +40,8 @@ pub struct Show {
     pub follows: bool,
     /// The samples that are written, and their form.
     pub samples: Choice,
+    /// The form of faults, and which of them count.
+    pub checks: Checks,
 }
 
 /// Returns a walk over a source, its boxes, and its tracks. Reads the headers of all boxes, and the headers of tracks.
@@ -172,24 +177,78 @@ fn show_json<B: Shown, S: Source, W: Write>(
     show_objects::<B, S, W>(alloc, name, &mut tree, &boxes, follows, output)
 }
 
-/// Writes the faults of a source. Returns whether it wrote a line.
-fn show_faults<B: Shown, S: Source, W: Write>(
-    alloc: Global,
-    name: Option<&str>,
-    source: S,
-    output: &mut Output<W>,
-) -> Result<bool, Failure>
-    ensures faults { IfSome (S.all source)
-        (λ bytes. IfOk result (λ faulty. WritesCheck B.known B.named_reading bytes
-        (W.contents output.old.inner) (W.contents output.new.inner)
-        faulty)) }
+/// Returns the form of the faults of the file `name`.
+fn form_of(name: &str, show: Show) -> Form<'_>
+    ensures { result ≡ form_of show name.entry }
 {
-    let (mut walk, boxes, tracks) = list_file(alloc, source)?;
-    write_faults::<B, S, W>(alloc, &mut walk, name, &boxes, &tracks, output)
+    if show.checks.json {
+        Form::Objects(name)
+    } else if show.several {
+        Form::Lines(Some(name))
+    } else {
+        Form::Lines(None)
+    }
 }
 
-/// Writes the requested output for a file. Returns whether it has a fault. After an error a beginning of the tree is
-/// written. `faults` gets the faults of tracks whose samples are written.
+/// Returns whether the faults in `told` make the run fail.
+fn is_bad(told: Told, checks: Checks) -> bool
+    ensures { result ≡ is_bad checks told }
+{
+    told.failures || checks.strict && told.warnings
+}
+
+/// Writes the faults of a source. Returns what was written. `any` says whether a fault of another file was written
+/// before.
+fn show_faults<B: Shown, S: Source, W: Write>(
+    alloc: Global,
+    form: Form<'_>,
+    any: bool,
+    source: S,
+    output: &mut Output<W>,
+) -> Result<Told, Failure>
+    ensures faults { IfSome (S.all source)
+        (λ bytes. IfOk result (λ told. WritesCheck B.known B.named_reading ⟦<SidxBox as ReadBox>⟧.reads form.entry any
+        bytes (W.contents output.old.inner) (W.contents output.new.inner) told)) }
+{
+    let mut walk = or_read(BoxWalk::new(alloc, source))?;
+    let boxes = or_read(walk.rest(alloc))?;
+    write_faults::<B, S, W>(alloc, &mut walk, &boxes, form, any, output)
+}
+
+/// The result of the check of a file.
+#[derive(Clone, Copy, Debug, PartialEq, Eq)]
+pub struct Checked {
+    /// True if it has a fault that makes the run fail.
+    pub faulty: bool,
+    /// True if a fault of any file was written.
+    pub any: bool,
+}
+
+/// Writes the faults of the file `name`. `any` says whether a fault of another file was written before.
+pub fn check_file<B: Shown, S: Source, W: Write>(
+    alloc: Global,
+    name: &str,
+    source: S,
+    show: Show,
+    any: bool,
+    output: &mut Output<W>,
+) -> Result<Checked, Failure>
+    ensures check { IfSome (S.all source)
+        (λ bytes. IfOk result
+        (ChecksFile B.known B.named_reading ⟦<SidxBox as ReadBox>⟧.reads (form_of show name.entry) show.checks bytes any
+        (W.contents output.old.inner) (W.contents output.new.inner))) }
+{
+    let form = form_of(name, show);
+    let told = show_faults::<B, S, W>(alloc, form, any, source, output)?;
+    Ok(Checked {
+        faulty: is_bad(told, show.checks),
+        any: told.any,
+    })
+}
+
+/// Writes the requested output for a file, unless its faults are requested: `check_file` writes these. Returns whether
+/// it has a fault. After an error a beginning of the tree is written. `faults` gets the faults of tracks whose samples
+/// are written.
 pub fn inspect<B: Shown, S: Source, W: Write>(
     alloc: Global,
     name: &str,
@@ -212,11 +271,6 @@ pub fn inspect<B: Shown, S: Source, W: Write>(
         (λ bytes. IfOk result
         (λ faulty. WritesJson B.known B.named_reading bytes name.now show.follows (W.contents output.old.inner)
         (W.contents output.new.inner) faulty)) }
-    ensures check { show.task ≡ Task.Check
-        → IfSome (S.all source)
-        (λ bytes. IfOk result
-        (λ faulty. WritesCheck B.known B.named_reading bytes
-        (W.contents output.old.inner) (W.contents output.new.inner) faulty)) }
 {
     match show.task {
         Task::Tree => {
@@ -224,10 +278,7 @@ pub fn inspect<B: Shown, S: Source, W: Write>(
             show_tree::<B, S, W>(alloc, heading.as_str(), source, show.look, output)
         }
         Task::Json => show_json::<B, S, W>(alloc, name, source, show.follows, output),
-        Task::Check => {
-            let shown = if show.several { Some(name) } else { None };
-            show_faults::<B, S, W>(alloc, shown, source, output)
-        }
+        Task::Check => Ok(false),
         Task::Samples => {
             write_samples(alloc, source, show.samples, output, faults)?;
             Ok(!faults.is_empty())

@@ -27,6 +27,21 @@ pub enum Rows {
     Json,
 }
 
+/// The form in which faults are written, and which of them make the run fail.
+#[derive(Clone, Copy, Debug, PartialEq, Eq)]
+pub struct Checks {
+    /// True for JSON.
+    pub json: bool,
+    /// True if warnings count, too.
+    pub strict: bool,
+}
+
+/// Lines, and a run that fails for errors only.
+const PLAIN: Checks = Checks {
+    json: false,
+    strict: false,
+};
+
 /// A request to show files.
 #[derive(Debug, Drop)]
 pub struct Request {
@@ -42,6 +57,8 @@ pub struct Request {
     pub track: Option<u32>,
     /// Asks for all samples, including those past the end of the file.
     pub beyond: bool,
+    /// The form of faults, and which of them count.
+    pub checks: Checks,
     /// The files, in order; `-` is the standard input. A name that is not UTF-8 has a mark.
     pub files: Vec<String>,
 }
@@ -74,8 +91,12 @@ fn number<'a>(alloc: Global, name: &'a str, help: &'a str) -> Arg<'a> {
 
 /// Returns the command `check`.
 fn check<'a>(alloc: Global) -> Result<Command<'a>, AllocError> {
+    let json = "Print an array of JSON objects";
+    let strict = "Exit with status 1 for warnings, too";
     Command::new(alloc, "check")
         .about("Print only faults, one a line, with position and path; nothing if there are none")
+        .arg(flag(alloc, "json", json))?
+        .arg(flag(alloc, "strict", strict))?
         .arg(files(alloc))
 }
 
@@ -154,6 +175,10 @@ fn check_of(alloc: Global, matches: &ArgMatches<'_>) -> Result<Request, AllocErr
         samples: Rows::Text,
         track: None,
         beyond: false,
+        checks: Checks {
+            json: matches.get_flag("json"),
+            strict: matches.get_flag("strict"),
+        },
         files: files_of(alloc, matches)?,
     })
 }
@@ -174,6 +199,7 @@ fn samples_of(alloc: Global, matches: &ArgMatches<'_>) -> Result<Request, AllocE
         samples,
         track: matches.get_one::<u32>("track"),
         beyond: matches.get_flag("beyond"),
+        checks: PLAIN,
         files: files_of(alloc, matches)?,
     })
 }
@@ -196,6 +222,7 @@ fn tree_of(alloc: Global, matches: &ArgMatches<'_>) -> Result<Request, AllocErro
         samples: Rows::Text,
         track: None,
         beyond: false,
+        checks: PLAIN,
         files: files_of(alloc, matches)?,
     })
 }

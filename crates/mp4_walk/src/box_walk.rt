@@ -1,6 +1,7 @@
 //! A walk over the boxes of a file, one at a time.
 
-ghost use Rattle.std.specs.Prelude.{◌≡◌, ◌<◌, ◌≤◌, ◌∷◌, [], true, false, reverse, IfOk, OnOk, OnErr, IfSome, Some};
+ghost use Rattle.std.specs.Prelude.{◌≡◌, ◌<◌, ◌≤◌, ◌∷◌, [], true, false, length, reverse, IfOk, OnOk, OnErr, IfSome};
+ghost use Rattle.std.specs.Prelude.{Some};
 ghost use Rattle.mp4_walk.specs.Source.{piece, content_of};
 ghost use Rattle.mp4_walk.specs.FileBoxes.{boxes_of};
 ghost use Rattle.mp4_walk.specs.Walk.{left, bytes_left, Comes, Closes, with_inner};
@@ -93,7 +94,8 @@ impl<S: Source> BoxWalk<S> {
 
     /// Returns the number of bytes of the source.
     pub fn length(&self) -> u64
-        ensures { result ≡ self.now.length }
+        ensures length { result ≡ self.now.length }
+        ensures known { IfSome self.now.bytes (λ bytes. result ≡ length bytes) }
     {
         self.pages.length()
     }
