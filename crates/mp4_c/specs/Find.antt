@@ -1,13 +1,16 @@
 -- The box at a path, for C.
 use Rattle.std.specs.Prelude.{◌≡◌, ℕ, ◌⊎◌, ◌==◌, nat_lt, List, drop, length, None, Some, if◌then◌else◌}
+use Rattle.std.specs.Str.{IsUtf8}
 use Rattle.std.specs.declared.option.Option.{Option}
 use Rattle.mp4_c.specs.Found.{code_or_zero}
 use Rattle.mp4_c.specs.declared.find.Place.{Place}
 use Rattle.mp4_c_boxes.specs.declared.status.TheConstants as statuses
 use Rattle.mp4_frame.specs.Bytes.{number}
+use Rattle.mp4_walk.specs.PathText.{ArePathParts, IsFirstFault}
 use Rattle.mp4_walk.specs.Paths.{at_path}
 use Rattle.mp4_walk.specs.Tops.{is_whole}
 use Rattle.mp4_walk.specs.FileBoxes.{boxes_of}
+use Rattle.mp4_walk.specs.declared.path.PathError.{PathError}
 use Rattle.mp4_walk.specs.declared.path.PathPart.{PathPart}
 use Rattle.mp4_walk.specs.declared.tree_box.TreeBox.{TreeBox}
 use Rattle.mp4_walk.specs.declared.tree_box.BoxState.{BoxState}
@@ -65,8 +68,14 @@ FindsAt B path status old new =
     FillsFound B (at_path 0 path (boxes_of B)) status old new
     ⊎ ((status ≡ statuses.OUT_OF_MEMORY) × (new ≡ old))
 
--- The text is a path, and the struct is that of the box at the path; or the text is no path, or memory is refused.
-abbrev pub Finds : List ℕ → ℕ → Place → Place → Type 0
-Finds B status old new =
-    ((path : List PathPart) × FindsAt B path status old new)
-    ⊎ (((status ≡ statuses.INVALID_DATA) ⊎ (status ≡ statuses.OUT_OF_MEMORY)) × (new ≡ old))
+-- The text isn't UTF-8, or a part of it is no part of a path.
+abbrev pub IsNoPath : List ℕ → Type 0
+IsNoPath text = ¬ (IsUtf8 text) ⊎ ((e : PathError) × IsFirstFault text e)
+
+-- The struct is that of the box at the path that the text stands for; or the text stands for no path; or memory is
+-- refused.
+abbrev pub Finds : List ℕ → List ℕ → ℕ → Place → Place → Type 0
+Finds B text status old new =
+    ((path : List PathPart) × IsUtf8 text × ArePathParts text path × FindsAt B path status old new)
+    ⊎ (((status ≡ statuses.INVALID_DATA) × IsNoPath text × (new ≡ old))
+    ⊎ ((status ≡ statuses.OUT_OF_MEMORY) × (new ≡ old)))

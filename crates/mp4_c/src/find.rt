@@ -102,7 +102,7 @@ fn find_at(alloc: Global, bytes: &[u8], path: &BoxPath, place: &mut Place) -> u3
 /// which is `INVALID_DATA` if `path` isn't a path in UTF-8.
 #[unsafe(no_mangle)]
 pub extern "C" fn mp4_find(alloc: Global, bytes: &[u8], path: &[u8], place: &mut Place) -> u32
-    ensures { Finds bytes.now result place.old place.new }
+    ensures { Finds bytes.now path.now result place.old place.new }
 {
     let Ok(text) = str::from_utf8(path) else {
         return INVALID_DATA;
@@ -110,6 +110,7 @@ pub extern "C" fn mp4_find(alloc: Global, bytes: &[u8], path: &[u8], place: &mut
     match BoxPath::parse(alloc, text) {
         Ok(path) => find_at(alloc, bytes, &path, place),
         Err(PathError::Memory) => OUT_OF_MEMORY,
-        Err(_) => INVALID_DATA,
+        Err(PathError::Code(_)) => INVALID_DATA,
+        Err(PathError::Index(_)) => INVALID_DATA,
     }
 }
