@@ -3,15 +3,16 @@
 _mp4inspect() {
     local word=${COMP_WORDS[COMP_CWORD]} command=${COMP_WORDS[1]} words
     case ${COMP_WORDS[COMP_CWORD - 1]} in
-        --rows | --track) return ;;
+        --rows | --track | --field) return ;;
     esac
     case $command in
-        check) words="--help" ;;
+        check) words="--json --strict --help" ;;
+        get) words="--json --raw --content --field --help" ;;
         samples) words="--track --json --csv --beyond --help" ;;
-        help) words="check samples" ;;
+        help) words="check samples get" ;;
         *) words="--json --all --rows --wide --help --version" ;;
     esac
-    ((COMP_CWORD > 1)) || words="check samples help --json --all --rows --wide --help --version"
+    ((COMP_CWORD > 1)) || words="check samples get help --json --all --rows --wide --help --version"
     mapfile -t COMPREPLY < <(
         compgen -W "$words" -- "$word"
         [[ $word == -* || ( $COMP_CWORD -gt 1 && $command == help ) ]] || compgen -f -- "$word"

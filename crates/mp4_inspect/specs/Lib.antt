@@ -3,4 +3,5 @@ pub mod Heading
 pub mod Json
 pub mod Opened
 pub mod Outcome
+pub mod Patterns
 pub mod Written

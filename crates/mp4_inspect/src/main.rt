@@ -1,25 +1,30 @@
 //! The program `mp4inspect` shows people what is in MP4 files: the tree of their boxes, as text or JSON, only their
-//! faults, or their samples.
+//! faults, their samples, or the boxes at a path.
 #![tactic(auto)]
 
+mod chosen;
+mod get;
 mod outcome;
+mod pattern;
 mod program;
 mod request;
 mod source;
 mod tree_json;
 mod tree_text;
 
+use get::{Get, Got, get_boxes};
 use mp4_command::{Kept, MISUSE, NOT_UTF_8, escaped, print_error, unreadable, words_of};
 use mp4_content::{Shown, ShownBox};
 use mp4_inspect_samples::{Choice, Form};
 use mp4_io::{Failure, Input, Output, Steady, flush, or_read, read_all, write_all};
 use mp4_show::Look;
-use mp4_walk::Source;
+use mp4_walk::{PathError, Source};
 use outcome::{Outcome, is_silent};
+use pattern::Pattern;
 use program::{Show, check_file, inspect};
-use request::{Request, Rows, Task, request_of};
+use request::{Place, Request, Rows, Task, request_of};
 use source::{Reading, how_to_read, input_file};
-use std::alloc::AllocError;
+use std::alloc::{AllocError, Global};
 use std::env::VarError;
 use std::fs::File;
 use std::io::{BufWriter, IsTerminal, Read, Write};
@@ -87,6 +92,8 @@ struct Named<'a> {
     name: &'a str,
     /// Its name with control characters escaped, for headings and messages.
     shown: &'a str,
+    /// The boxes of it that are asked for; `None` means all.
+    get: Option<&'a Get>,
 }
 
 /// Prints to standard error why a file could not be read, with the system's reason if there is one. A failed write is
@@ -114,6 +121,45 @@ fn refuse_empty(rt: &HostRuntime, shown: &str) -> Outcome {
     Outcome::Faulty
 }
 
+/// Prints to standard error that a file has no box at the path, or none with the field.
+fn miss(rt: &HostRuntime, shown: &str, get: &Get, got: Got) {
+    let _ = match got {
+        Got::Nowhere => eprintln!(rt; "mp4inspect: {shown}: no box at {}", get.path),
+        Got::NoField => {
+            eprintln!(rt;
+                "mp4inspect: {shown}: {} has no single value {}",
+                get.path, get.field
+            )
+        }
+        Got::Sound | Got::Faulty => Ok(()),
+    };
+}
+
+/// Writes what is asked for of the boxes at a path. The reason if there is none, or if the file could not be read, is
+/// printed to standard error.
+fn get_source<B: Shown, S: Source, W: Write>(
+    rt: &HostRuntime,
+    file: Named<'_>,
+    get: &Get,
+    source: S,
+    look: Look,
+    output: &mut Output<Steady<W>>,
+) -> Outcome {
+    let mut source = Kept::new(source);
+    let run = get_boxes::<B, _, _>(rt.alloc(), file.name, &mut source, get, look, output);
+    let is_closed = output.inner.is_closed();
+    match run {
+        Ok(got) => {
+            miss(rt, file.shown, get, got);
+            Outcome::of_file(Ok(got != Got::Sound), is_closed)
+        }
+        Err(failure) => {
+            tell(rt, file.shown, failure, source.error);
+            Outcome::of_file(Err(failure), is_closed)
+        }
+    }
+}
+
 /// Writes the requested output for a file. The faults of its tracks, and the reason if it could not be read, are
 /// printed to standard error.
 fn inspect_source<B: Shown, S: Source, W: Write>(
@@ -124,6 +170,9 @@ fn inspect_source<B: Shown, S: Source, W: Write>(
     output: &mut Output<Steady<W>>,
     any: &mut bool,
 ) -> Outcome {
+    if let Some(get) = file.get {
+        return get_source::<B, _, _>(rt, file, get, source, show.look, output);
+    }
     let mut source = Kept::new(source);
     let is_empty = show.task != Task::Samples && matches!(source.length(), Ok(0));
     let mut faults = Vec::new(rt.alloc());
@@ -230,6 +279,7 @@ fn inspect_open<W: Write>(
 fn inspect_named<W: Write>(
     rt: &HostRuntime,
     name: &str,
+    get: Option<&Get>,
     show: Show,
     output: &mut Output<Steady<W>>,
     any: &mut bool,
@@ -241,6 +291,7 @@ fn inspect_named<W: Write>(
     let file = Named {
         name,
         shown: shown.as_str(),
+        get,
     };
     if name == "-" {
         return Ok(inspect_input(rt, file, show, output, any));
@@ -259,6 +310,7 @@ fn inspect_named<W: Write>(
 fn inspect_all<W: Write>(
     rt: &HostRuntime,
     request: &Request,
+    get: Option<&Get>,
     output: &mut Output<Steady<W>>,
     outcome: &mut Outcome,
 ) -> Result<(), Failure> {
@@ -278,7 +330,7 @@ fn inspect_all<W: Write>(
             samples: choice_of(request),
             checks: request.checks,
         };
-        let here = inspect_named(rt, name.as_str(), show, output, &mut any)?;
+        let here = inspect_named(rt, name.as_str(), get, show, output, &mut any)?;
         *outcome = outcome.or_worse(here);
         if output.failed {
             return Err(Failure::Write);
@@ -292,11 +344,11 @@ fn inspect_all<W: Write>(
 }
 
 /// Shows the requested files. If the pipe of the output is closed, ends silently.
-fn show(rt: &HostRuntime, request: &Request) -> Result<Outcome, Failure> {
+fn show(rt: &HostRuntime, request: &Request, get: Option<&Get>) -> Result<Outcome, Failure> {
     let writer = or_read(BufWriter::new(rt.alloc(), rt.stdout()))?;
     let mut output = Output::new(Steady::new(writer));
     let mut outcome = Outcome::Sound;
-    let Err(failure) = inspect_all(rt, request, &mut output, &mut outcome) else {
+    let Err(failure) = inspect_all(rt, request, get, &mut output, &mut outcome) else {
         return Ok(outcome);
     };
     let is_closed = output.inner.is_closed();
@@ -311,6 +363,37 @@ fn is_fast_start(words: &[String]) -> bool {
     words.len() > 1 && words[1].as_str() == "faststart"
 }
 
+/// Returns the boxes that `place` asks for. The error has the fault of its path.
+fn get_of(alloc: Global, place: &Place) -> Result<Get, PathError> {
+    Ok(Get {
+        pattern: Pattern::parse(alloc, place.path.as_str())?,
+        path: escaped(alloc, place.path.as_str())?,
+        form: place.form,
+        field: escaped(alloc, place.field.as_str())?,
+    })
+}
+
+/// Writes what is asked for of the boxes at a path. Returns the exit status.
+fn run_get(rt: &HostRuntime, request: &Request, place: &Place) -> Result<u8, Failure> {
+    match get_of(rt.alloc(), place) {
+        Ok(get) => Ok(show(rt, request, Some(&get))?.status()),
+        Err(PathError::Memory) => Err(Failure::Memory),
+        Err(fault) => {
+            let path = escaped(rt.alloc(), place.path.as_str())?;
+            let _ = eprintln!(rt; "mp4inspect: {path}: {fault}");
+            Ok(MISUSE)
+        }
+    }
+}
+
+/// Carries out a request, and returns the exit status.
+fn run_request(rt: &HostRuntime, request: &Request) -> Result<u8, Failure> {
+    match &request.place {
+        Some(place) => run_get(rt, request, place),
+        None => Ok(show(rt, request, None)?.status()),
+    }
+}
+
 /// Carries out the command line, and returns the exit status.
 fn run(rt: &HostRuntime) -> Result<u8, Failure> {
     let words = words_of(rt.alloc(), rt)?;
@@ -321,7 +404,7 @@ fn run(rt: &HostRuntime) -> Result<u8, Failure> {
         return Ok(MISUSE);
     }
     match request_of(rt.alloc(), words.as_slice()) {
-        Ok(request) => Ok(show(rt, &request)?.status()),
+        Ok(request) => run_request(rt, &request),
         Err(error) => print_error(rt, &error),
     }
 }

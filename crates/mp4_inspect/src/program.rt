@@ -45,7 +45,7 @@ pub struct Show {
 }
 
 /// Returns a walk over a source, its boxes, and its tracks. Reads the headers of all boxes, and the headers of tracks.
-fn list_file<S: Source>(
+pub fn list_file<S: Source>(
     alloc: Global,
     source: S,
 ) -> Result<(BoxWalk<S>, Vec<TreeBox>, Vec<TrackInfo>), Failure>

@@ -1,5 +1,6 @@
 //! The requests that a command line can make.
 
+use crate::get::GetForm;
 use clap::{Arg, ArgAction, ArgMatches, Command, Error};
 use std::alloc::{AllocError, Global};
 
@@ -42,6 +43,17 @@ const PLAIN: Checks = Checks {
     strict: false,
 };
 
+/// The boxes that the command `get` asks for.
+#[derive(Debug, Drop)]
+pub struct Place {
+    /// The path of the boxes, a pattern.
+    pub path: String,
+    /// The form in which the boxes are written.
+    pub form: GetForm,
+    /// The field whose value is written, with `GetForm::Field`.
+    pub field: String,
+}
+
 /// A request to show files.
 #[derive(Debug, Drop)]
 pub struct Request {
@@ -61,6 +73,8 @@ pub struct Request {
     pub checks: Checks,
     /// The files, in order; `-` is the standard input. A name that is not UTF-8 has a mark.
     pub files: Vec<String>,
+    /// The boxes that the command `get` asks for; `None` for other commands.
+    pub place: Option<Place>,
 }
 
 /// Returns the argument for several files.
@@ -131,6 +145,36 @@ fn samples<'a>(alloc: Global) -> Result<Command<'a>, AllocError> {
         .arg(file(alloc))
 }
 
+/// Returns the argument for a path.
+fn path<'a>(alloc: Global) -> Arg<'a> {
+    Arg::new(alloc, "PATH").required(true).help(
+        "Path of a box, such as moov/trak[1]/mdia; * is any box, and **/ any path before",
+    )
+}
+
+/// Returns the command `get`.
+fn get<'a>(alloc: Global) -> Result<Command<'a>, AllocError> {
+    let json = "Print JSON, with all entries of lists";
+    let raw = "Write the bytes of the boxes to standard output";
+    let content = "Write the bytes of the boxes without their headers";
+    let field = Arg::new(alloc, "field")
+        .long("field")
+        .value_name("NAME")
+        .help("Print the value of one field, such as timescale or entries[0].media_time");
+    Command::new(alloc, "get")
+        .about("Print the boxes at a path with the boxes inside them, their bytes or one field")
+        .arg(
+            flag_without(alloc, "json", json, "raw")?
+                .conflicts_with("content")?
+                .conflicts_with("field")?,
+        )?
+        .arg(flag_without(alloc, "raw", raw, "content")?.conflicts_with("field")?)?
+        .arg(flag_without(alloc, "content", content, "field")?)?
+        .arg(field)?
+        .arg(file(alloc))?
+        .arg(path(alloc))
+}
+
 /// Returns the command line without its commands.
 fn tree<'a>(alloc: Global) -> Result<Command<'a>, AllocError> {
     let all = "Show all entries of lists";
@@ -152,7 +196,8 @@ fn tree<'a>(alloc: Global) -> Result<Command<'a>, AllocError> {
 fn command<'a>(alloc: Global) -> Result<Command<'a>, AllocError> {
     tree(alloc)?
         .subcommand(check(alloc)?)?
-        .subcommand(samples(alloc)?)
+        .subcommand(samples(alloc)?)?
+        .subcommand(get(alloc)?)
 }
 
 /// Returns the names of the files in `matches`.
@@ -180,6 +225,7 @@ fn check_of(alloc: Global, matches: &ArgMatches<'_>) -> Result<Request, AllocErr
             strict: matches.get_flag("strict"),
         },
         files: files_of(alloc, matches)?,
+        place: None,
     })
 }
 
@@ -201,6 +247,51 @@ fn samples_of(alloc: Global, matches: &ArgMatches<'_>) -> Result<Request, AllocE
         beyond: matches.get_flag("beyond"),
         checks: PLAIN,
         files: files_of(alloc, matches)?,
+        place: None,
+    })
+}
+
+/// Returns a copy of the value of the argument `name`, or an empty text if it has none.
+fn text_of(alloc: Global, matches: &ArgMatches<'_>, name: &str) -> Result<String, AllocError> {
+    String::from_str(alloc, matches.get_str(name).unwrap_or(""))
+}
+
+/// Returns what the command `get` writes.
+fn form_of(matches: &ArgMatches<'_>) -> GetForm {
+    if matches.get_flag("json") {
+        GetForm::Json
+    } else if matches.get_flag("raw") {
+        GetForm::Raw
+    } else if matches.get_flag("content") {
+        GetForm::Content
+    } else if matches.get_str("field").is_some() {
+        GetForm::Field
+    } else {
+        GetForm::Tree
+    }
+}
+
+/// Returns the request of the command `get`.
+fn get_of(alloc: Global, matches: &ArgMatches<'_>) -> Result<Request, AllocError> {
+    let form = form_of(matches);
+    Ok(Request {
+        task: if form == GetForm::Json {
+            Task::Json
+        } else {
+            Task::Tree
+        },
+        rows: None,
+        wide: false,
+        samples: Rows::Text,
+        track: None,
+        beyond: false,
+        checks: PLAIN,
+        files: files_of(alloc, matches)?,
+        place: Some(Place {
+            path: text_of(alloc, matches, "PATH")?,
+            form,
+            field: text_of(alloc, matches, "field")?,
+        }),
     })
 }
 
@@ -224,6 +315,7 @@ fn tree_of(alloc: Global, matches: &ArgMatches<'_>) -> Result<Request, AllocErro
         beyond: false,
         checks: PLAIN,
         files: files_of(alloc, matches)?,
+        place: None,
     })
 }
 
@@ -231,6 +323,7 @@ fn tree_of(alloc: Global, matches: &ArgMatches<'_>) -> Result<Request, AllocErro
 fn asked(alloc: Global, matches: &ArgMatches<'_>) -> Result<Request, AllocError> {
     match matches.subcommand() {
         Some(("samples", inner)) => samples_of(alloc, inner),
+        Some(("get", inner)) => get_of(alloc, inner),
         Some((_, inner)) => check_of(alloc, inner),
         None => tree_of(alloc, matches),
     }
