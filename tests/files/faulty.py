@@ -32,10 +32,13 @@ def number_at(data, at, length):
 
 
 def lasting(header, duration):
-    """Returns the `mvhd`, `tkhd` or `mdhd` `header` with another duration. The largest number is for an unknown one."""
+    """Returns the `mvhd`, `tkhd` or `mdhd` `header` with another duration, if it has one. The largest number is for an
+    unknown one."""
     wide = header[8] == 1
     at = {b"tkhd": (28, 36), b"mdhd": (24, 32), b"mvhd": (24, 32)}[header[4:8]][wide]
     width = 8 if wide else 4
+    if len(header) < at + width:
+        return header
     return header[:at] + be(width, min(duration, 256**width - 1)) + header[at + width:]
 
 

@@ -14,7 +14,8 @@ import subprocess
 
 from tests.built import TOP, built, codec, library
 from tests.interfaces.answers import Problem, Sample, Samples, listed
-from tests.readers.inspect import code_text, compact_fault, every, first, sizes_in, value_of
+from tests.readers.check import compact_fault, sizes_in
+from tests.readers.inspect import code_text, every, first, value_of
 from tests.readers.samples import disagreement, table_steps, unlisted
 
 END, INVALID, NOT_FOUND, NO_TRACK = 1, 2, 3, 101
@@ -140,7 +141,7 @@ def shown_tables(trak):
     names = [counted, chunks, "stsc", "stts", "ctts", "stss"]
     found = {name: first(boxes, name) for name in names}
     for name in names:
-        if "fault" in found[name] or name == counted and found[name] and not sizes_in(name, found[name]["fields"]):
+        if "fault" in found[name] or name == counted and found[name] and not sizes_in(found[name]):
             return Samples([], Problem(None, name, found[name]["position"]))
         if name == chunks and not found[counted] and not value_of(found[chunks], "chunk_offset"):
             return Samples([])
@@ -150,7 +151,7 @@ def shown_tables(trak):
             return Samples([], Problem("there is no stco" if name == chunks else f"there is no {name}"))
     rows = {name: value_of(found[name], "entries") for name in ("stsc", "stts", "ctts")}
     tables = {
-        "sizes": sizes_in(counted, found[counted]["fields"]), "offsets": value_of(found[chunks], "chunk_offset"),
+        "sizes": sizes_in(found[counted]), "offsets": value_of(found[chunks], "chunk_offset"),
         "runs": [(it["first_chunk"], it["samples_per_chunk"], it["sample_description_index"]) for it in rows["stsc"]],
         "durations": [(it["sample_count"], it["sample_delta"]) for it in rows["stts"]],
         "shifts": [(it["sample_count"], it["sample_offset"]) for it in rows["ctts"] or []],

@@ -134,7 +134,7 @@ class Boxes(unittest.TestCase):
     def tree_as_json(self, data, wanted):
         it = asked(data)
         self.assertEqual(it.reasons, {})
-        self.compare_boxes({path: box.get("fields") for box, path, _, _ in located(it.boxes)}, wanted)
+        self.compare_boxes({path: box.get("fields") for box, path in located(it.boxes)}, wanted)
 
     def python(self, data, wanted):
         module, found = codec(), {}

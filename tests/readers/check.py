@@ -1,7 +1,7 @@
 """Computes the faults of a file a second time, by docs/CHECK.md and the standards only, to compare `mp4inspect check`
 with. `faults` gives them in their order, and `lines` their lines. It shares nothing with the product."""
 
-from tests.readers.inspect import code_text, first, value_of
+from tests.readers.inspect import code_text, first, in_level, value_of
 from tests.readers.samples import disagreement
 
 # The boxes of which a box has to have one, and those of which it may have at most one (ISO/IEC 14496-12, the quantity
@@ -115,10 +115,8 @@ class Check:
 
     def level(self, level, front, parent, depth):
         """Adds the faults of the boxes of a level, whose paths begin with `front`, and of those in them."""
-        types, groups = {}, {}
-        for box in level:
-            index = types[box["type"]] = types.get(box["type"], -1) + 1
-            path = front + ("-" if box["type"] is None else code_text(box["type"])) + (f"[{index}]" if index else "")
+        groups = {}
+        for box, path in in_level(level, front):
             self.unreadable(box, path, depth)
             group = next((names for names in ONCE.get(parent, []) if box["type"] in names.split()), None)
             if group in groups:

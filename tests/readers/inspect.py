@@ -315,6 +315,21 @@ class Walk:
             self.handler = self.data[content + 8:content + 12] if end - content >= 12 else b"\0\0\0\0"
 
 
+def in_level(level, front=""):
+    """Yields the boxes of a level with their paths, which begin with `front`."""
+    types = {}
+    for box in level:
+        index = types[box["type"]] = types.get(box["type"], -1) + 1
+        yield box, front + ("-" if box["type"] is None else code_text(box["type"])) + (f"[{index}]" if index else "")
+
+
+def located(level, front=""):
+    """Yields the boxes of a level and those in them, each with its path."""
+    for box, path in in_level(level, front):
+        yield box, path
+        yield from located(box.get("children", []), path + "/")
+
+
 def tree(data):
     """Returns the boxes of a file, as the JSON has them. Also sets `deep` where a box is too deep for the walk to
     enter, and `cut` where a box isn't whole."""

@@ -236,6 +236,15 @@ def compare_bodies():
         tell(page, begin, f"the table has {name} more than once")
 
 
+def compare_parts():
+    """Checks that `tests/run` has a part for each module of tests."""
+    script = TOP / "tests/run"
+    for module in tree("tests/*/test_*.py"):
+        name = f"{module.parent.name}.{module.stem}"
+        if not re.search(rf'suite\("{name}[".]', read(script)):
+            tell(script, 0, f"no part runs tests.{name}")
+
+
 def kinds_of_boxes():
     """Returns the number of types of boxes that the codec reads."""
     return len(re.findall(r"^kinds names\.\w+Box", read(TOP / "crates/mp4_stream/specs/AnyBox.antt"), re.M))
@@ -340,6 +349,10 @@ class Documents(unittest.TestCase):
 
     def test_rows_of_tables_come_from_two_functions(self):
         compare_tables()
+        self.agree()
+
+    def test_parts(self):
+        compare_parts()
         self.agree()
 
     def test_version(self):
