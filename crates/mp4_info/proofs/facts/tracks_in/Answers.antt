@@ -1,0 +1,27 @@
+use Rattle.std.proofs.Common.{◌∙◌, ap}
+use Rattle.mp4_info.specs.contracts.facts.InfoBoxesReadsInfo.TheImpl as own
+use Rattle.mp4_info.proofs.Tracks.{track_on, tracks_end}
+use Rattle.mp4_info.proofs.facts.tracks_in.Goals as goal
+use Rattle.mp4_lemmas.proofs.Outcomes.{both_known}
+use Rattle.mp4_movie.specs.Levels.{Found}
+use Rattle.mp4_movie.proofs.Chains.{some_then}
+use Rattle.mp4_walk.specs.Walk.{Walk}
+
+pub tracks-preserved : goal.tracks-preserved
+tracks-preserved g c =
+    let f : Found = record { box = c.in-Some.place.found; after = c.in-Some.place.after.now } in
+    record {
+      kept = c.in_ok-facts.ensures.kept ∙ c.tracks.invariant.kept;
+      so_far = both_known _ _ (ap (λ (w : Walk). w.bytes) c.tracks.invariant.kept) c.tracks.invariant.so_far
+          c.in_ok-facts.ensures.value
+          (λ file h here. λ moofs are. track_on (own.ghosts).readings file moofs c.args.movie_timescale
+          c.args.movie.now c.tracks.rest.now f c.tracks.tracks.items _ _ c.in-Some.ensures.first
+          c.in_ok-push_track.ensures (here moofs are) (h moofs are));
+    }
+
+pub returns-clause-value : goal.returns-clause-value
+returns-clause-value g c =
+    some_then _ _ _
+    (λ file h. λ moofs are. tracks_end (own.ghosts).readings file moofs c.args.movie_timescale c.args.movie.now
+    c.tracks.rest.now c.tracks.tracks.items c.in_default.ensures.first (h moofs are))
+    c.tracks.invariant.so_far
