@@ -83,7 +83,7 @@ WRONG = {
     "moov/trak[18446744073709551616]": "part 1 of the path has no number in brackets after its code",
 }
 HEADER = "version: 0, flags: 0x000000, creation_time: 0, modification_time: 0, timescale: 48000, duration: 0, "
-# A `trak` with two edits: 5000 from 64 on, and an empty one (ISO/IEC 14496-12, 8.6.6).
+# A `trak` with two edits: 5000 units starting at 64, and an empty one (ISO/IEC 14496-12, 8.6.6).
 ELST = bytes.fromhex("00000028 656c7374 00000000 00000002 00001388 00000040 00010000 00000007 ffffffff 00010000")
 
 
@@ -147,7 +147,7 @@ class Get(unittest.TestCase):
 
     def test_tree(self):
         self.runs.ends(("get", "-", "moov/trak[1]/mdia"), 0,
-                       f"mdia @80 +40\n  mdhd @88 +32 {HEADER}language: und\n", "", input=FILE)
+                       f"mdia @80 +40\n  mdhd @88 +32 {HEADER}language: \"und\"\n", "", input=FILE)
         self.runs.ends(("get", "-", "**/free"), 0, "free @120 +12 not read (free space)\n"
                        "free @132 +10 not read (free space)\nfree @150 +9 not read (free space)\n", "", input=FILE)
 

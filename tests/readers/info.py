@@ -6,7 +6,7 @@ from fractions import Fraction
 
 from tests.readers.codec_strings import string_of
 from tests.readers.fronts import bytes_before
-from tests.readers.samples import Bad, File, boxes, first, inner
+from tests.readers.samples import Bad, File, boxes, first, inner, tables_of
 
 # The number of the channels of the full range and of low frequencies in the channel configurations of MPEG-4 audio
 # (ISO/IEC 14496-3, 1.6.3.5), and of the full range in the audio coding modes of AC-3 (ETSI TS 102 366, 4.4.2.3).
@@ -62,16 +62,18 @@ def duration_of(edits, movie_scale, media_scale, end):
 
 
 def frame_rate(durations, scale):
-    """Returns the rate of frames with these durations as a fraction, and whether it is constant: the duration of the
-    last frame is no distance between frames."""
-    if len(durations) < 2:
+    """Returns the rate of frames as a fraction, and whether it is constant: the duration of the last frame is no
+    distance between frames. `durations` counts frames with one duration each."""
+    runs = [list(run) for run in durations if run[0]]
+    frames, total = sum(count for count, _ in runs), sum(count * each for count, each in runs)
+    if frames < 2:
         return None
-    distances = set(durations[:-1])
+    runs[-1][0] -= 1
+    distances = {each for count, each in runs if count}
     if len(distances) == 1:
         distance, = distances
         return (scale, distance, True) if distance and scale else None
-    total = sum(durations)
-    return (len(durations) * scale, total, False) if total and scale else None
+    return (frames * scale, total, False) if total and scale else None
 
 
 def letters(code):
@@ -141,12 +143,15 @@ def channels(code, inside, children):
 
 
 def channel_text(count):
-    return {(1, 0): "mono", (2, 0): "stereo"}.get(count, "{}.{}".format(*count))
+    full, low = count
+    return {(1, 0): "mono", (2, 0): "stereo"}.get(count, f"{full}.{low}" if low else f"{full} channels")
 
 
 def picture_of(header, inside, children):
     """Returns what a video entry says about pictures (12.1), and their turn."""
-    found = {"width": number(inside, 24, 2), "height": number(inside, 26, 2), "rotation": rotation(header)}
+    is_long = len(inside) >= 28
+    found = {"width": number(inside, 24, 2) if is_long else None, "height": number(inside, 26, 2) if is_long else None,
+             "rotation": rotation(header)}
     pasp, colr, mdcv, clli = (children.get(code) for code in (b"pasp", b"colr", b"mdcv", b"clli"))
     found["pixel_aspect"] = pasp and {"horizontal": number(pasp, 0, 4), "vertical": number(pasp, 4, 4)}
     found["colours"] = None
@@ -176,46 +181,89 @@ def encryption_of(code, children):
             "key": children[b"tenc"][8:24].hex() if b"tenc" in children else None}
 
 
-def samples_of(file, trak, track_id):
-    """Returns the samples of a track, and None if its tables can't be read."""
+def readable(read, *boxes):
+    """Returns what `read` returns, and None if a box can't be read."""
     try:
-        return list(file.of_track(track_id, file.tables(trak)))
+        return read(*boxes)
     except Bad:
         return None
+
+
+def fragments_of(file, track_id):
+    """Yields each `traf` of a track that is a fragment, the time at which it starts, and its runs. It needs a base of
+    its offsets, and the defaults of its track."""
+    for _, traf, header, base in file.fragments.get(track_id, []):
+        found = readable(file.fragment_of, track_id, traf, base)
+        if found:
+            default = {**file.defaults[track_id], **header}
+            yield traf, found[0], [samples_in(default, *run) for run in found[1]]
+
+
+def samples_in(default, values, count, rows):
+    """Returns counts of samples of a run, each with the duration, the size and the flags of one sample."""
+    if not isinstance(rows, list):
+        rest = (default["duration"], default["size"], default["flags"])
+        first = (default["duration"], default["size"], values.get("first", default["flags"]))
+        return [(1, *first), (count - 1, *rest)] if count else []
+    rows = [{**default, **({"flags": values["first"]} if index == 0 and "first" in values else {}), **row}
+            for index, row in enumerate(rows)]
+    return [(1, row["duration"], row["size"], row["flags"]) for row in rows]
+
+
+def samples_of(data, file, stbl, track_id):
+    """Returns what the tables and the fragments of a track say of its samples, and None if the tables can't be read.
+    Tables that disagree are counted as they are."""
+    tables = readable(tables_of, data, stbl) if stbl else {"sizes": (0, 0, []), "durations": [], "sync": None}
+    if tables is None:
+        return None
+    count, one, sizes = tables["sizes"]
+    keys = count if tables["sync"] is None else sum(1 <= each <= count for each in tables["sync"])
+    total, durations = one * count + sum(sizes), list(tables["durations"])
+    end = sum(samples * duration for samples, duration in durations)
+    for _, start, runs in fragments_of(file, track_id):
+        listed = [sample for run in runs for sample in run]
+        durations += [(samples, duration) for samples, duration, _, _ in listed]
+        count += sum(samples for samples, _, _, _ in listed)
+        keys += sum(samples for samples, _, _, flags in listed if not flags & 0x10000)
+        total += sum(samples * size for samples, _, size, _ in listed)
+        end = (end if start is None else start) + sum(samples * duration for samples, duration, _, _ in listed)
+    return {"samples": count, "key_frames": keys, "bytes": total, "durations": durations, "end": end}
+
+
+def rates_of(found, scale):
+    """Returns the frame rate and the bit rate of samples, or None for one that isn't known."""
+    time = sum(samples * duration for samples, duration in found["durations"])
+    bits = rounded(Fraction(8 * found["bytes"] * scale, time)) if time and scale else None
+    return frame_rate(found["durations"], scale), bits
 
 
 def track(data, file, trak, movie_scale):
     """Returns what is reported about a track."""
     media = at_path(data, trak, b"mdia")
-    header, media_header = content(at_path(data, trak, b"tkhd")), content(at_path(data, media, b"mdhd"))
-    handler = content(at_path(data, media, b"hdlr"))
-    handler = handler and handler[8:12]
-    name = handler and handler.decode("latin-1")
-    scale = header_numbers(media_header)[0] if media_header else 0
-    track_id = header and number(header, 20 if header[0] == 1 else 12, 4)
-    listed = samples_of(file, trak, track_id)
-    samples = listed or []
-    durations = [sample[3] for sample in samples]
-    end, time = max((sample[2] + sample[3] for sample in samples), default=0), sum(durations)
-    total = sum(sample[1] for sample in samples)
+    track_id, handler, scale = (None if isinstance(each, Bad) else each for each in file.headers(trak))
+    header = content(at_path(data, trak, b"tkhd")) if track_id is not None else None
+    media_header = content(at_path(data, media, b"mdhd")) if scale is not None else None
+    name, scale, stbl = handler and handler.decode("latin-1"), scale or 0, at_path(data, media, b"minf", b"stbl")
+    known = samples_of(data, file, stbl, track_id)
     edits = content(at_path(data, trak, b"edts", b"elst"))
-    code, inside, children = entry_of(data, at_path(data, media, b"minf", b"stbl"), handler)
+    code, inside, children = entry_of(data, stbl, handler)
+    rate, bits = rates_of(known, scale) if known else (None, None)
     found = {
         "track_id": track_id, "handler": name, "kind": KINDS.get(name),
         "entry": code and code.decode("latin-1"), "codec": None if code is None else string_of(code, children),
         "encryption": encryption_of(code, children),
-        "duration": duration_of(list(edits_of(edits)) if edits else [], movie_scale, scale, end),
-        "media_duration": (end, scale), "samples": len(samples),
-        "key_frames": sum(bool(sample[5]) for sample in samples), "bytes": total,
-        "bit_rate": rounded(Fraction(8 * total * scale, time)) if time and scale else None,
-        "language": language(data, media, media_header),
+        "duration": duration_of(list(edits_of(edits)) if edits else [], movie_scale, scale, known["end"])
+        if known else (0, 0),
+        "media_duration": (known["end"], scale) if known else (0, 0),
+        **{each: known and known[each] for each in ("samples", "key_frames", "bytes")},
+        "bit_rate": bits, "language": language(data, media, media_header),
     }
     if handler in (b"vide", b"auxv", b"pict") and code:
-        found.update(picture_of(header, inside, children), frame_rate=frame_rate(durations, scale))
+        found.update(picture_of(header, inside, children), frame_rate=rate)
     if handler == b"soun" and code:
         code = children[b"frma"][:4] if code == b"enca" and b"frma" in children else code
         found.update(sample_rate=number(inside, 24, 2), channels=channels(code, inside, children))
-    is_known = all(each is not None for each in (header, media_header, handler, code, listed))
+    is_known = all(each is not None for each in (header, media_header, handler, code, known))
     return dict(found, references=references_of(data, trak), is_known=is_known)
 
 
@@ -224,22 +272,17 @@ def segments_of(data, tops, file, tracks):
     and the duration as ticks and ticks in a second."""
     index = content(first(tops, b"sidx"))
     if index:
-        at = 22 + (16 if index[0] == 1 else 8) - 2
+        at = 14 + (16 if index[0] == 1 else 8)
         scale, count = number(index, 8, 4), number(index, at, 2)
         rows = [index[at + 2 + 12 * each:] for each in range(count)]
         return [{"bytes": number(row, 0, 4) & 0x7FFFFFFF, "duration": (number(row, 4, 4), scale)} for row in rows]
     found = []
     for moof in (box for box in tops if box[0] == b"moof"):
-        trafs = sorted((traf[1], id_, traf, header) for id_, each in file.fragments.items()
-                       for around, traf, header, base in each
-                       if around[1] == moof[1] and base is not None and id_ in file.defaults)
-        if not trafs:
-            found.append({"position": moof[1], "duration": (0, 0)})
-            continue
-        _, id_, traf, header = trafs[0]
-        default = {**file.defaults[id_], **header}["duration"]
-        ticks = sum(row.get("duration", default) for _, _, rows in file.runs(traf)[1] for row in rows)
-        scale = next((each["media_duration"][1] for each in tracks if each["track_id"] == id_), 0)
+        trafs = [(traf[1], track_id, runs) for track_id in file.fragments
+                 for traf, _, runs in fragments_of(file, track_id) if moof[1] < traf[1] < moof[4] + len(moof[2])]
+        _, track_id, runs = min(trafs, default=(0, 0, []))
+        ticks = sum(samples * duration for run in runs for samples, duration, _, _ in run)
+        scale = next((each["media_duration"][1] for each in tracks if each["track_id"] == track_id), 0)
         found.append({"position": moof[1], "duration": (ticks, scale)})
     return found
 
@@ -281,7 +324,7 @@ def info(data):
         "brands": [brands[at:at + 4].decode("latin-1") for at in (0, *range(8, len(brands) - 3, 4))] if brands else [],
         "fragmented": bool(movie and at_path(data, movie, b"mvex") or first(tops, b"moof")),
         "movie": bool(movie and stated),
-        "has_moof": any(box[0] == b"moof" for box in tops),
+        "items": any(box[0] == b"meta" for box in tops), "has_moof": any(box[0] == b"moof" for box in tops),
         "moov_first": None if not movie or not media else movie[1] < media[1],
         "thousandths": max((thousandths_of(*each["duration"]) for each in tracks), default=0), "stated": stated,
         "segments": segments_of(data, tops, file, tracks), "tags": tags_of(data, movie) if movie else [],
@@ -306,9 +349,9 @@ def shown(code):
 
 
 def is_known(found):
-    """Returns whether there is a movie or a fragment, and the main values of each track are known."""
+    """Returns whether there are a movie, fragments or items, and the main values of each track are known."""
     return (found["stated"] is not None or any("position" in each for each in found["segments"])
-            or found["has_moof"]) and all(
+            or found["has_moof"] or found["items"]) and all(
         each["is_known"] and each["duration"][1] for each in found["tracks"])
 
 
@@ -322,7 +365,7 @@ def counted(count, word):
 
 def picture(found):
     """Returns the words about pictures: their size, and the rate of frames, without zeros at the end."""
-    words = f"{found['width']}x{found['height']}"
+    words = "" if found["width"] is None else f"{found['width']}x{found['height']}"
     if found["rotation"]:
         words += f" rotated {found['rotation']}"
     aspect = found["pixel_aspect"]
@@ -344,7 +387,7 @@ def sound(found):
 def track_words(found):
     """Returns the columns of the line of a track after its kind."""
     about = picture(found) if "width" in found else sound(found) if "sample_rate" in found else ""
-    frames = counted(found["samples"], "sample")
+    frames = "" if found["samples"] is None else counted(found["samples"], "sample")
     if found["key_frames"] != found["samples"]:
         frames += ", " + counted(found["key_frames"], "key frame")
     rate = "" if found["bit_rate"] is None else f"{rounded(Fraction(found['bit_rate'], 1000))} kb/s"
@@ -356,19 +399,28 @@ def track_words(found):
     return [codec, about, duration, rate, found["language"] or "", frames]
 
 
+PICTURES = ["mif1", "msf1", "heic", "heix", "hevc", "hevx", "avif", "avis"]
+
+
 def lines(name, data, names):
     """Returns the text about a file. `names` has the names of boxes by their codes."""
     found = info(data)
     brands = [shown(brand).rstrip() for brand in dict.fromkeys(found["brands"])]
-    words = ["QuickTime" if found["brands"][:1] == ["qt  "] else "MP4"]
+    timed = found["movie"] or found["fragmented"]
+    words = ["MP4" if timed else "no ftyp"]
     if brands:
+        words = [{"qt": "QuickTime", **dict.fromkeys(PICTURES, "HEIF")}.get(brands[0], "MP4")]
         words[0] += f" ({', '.join(brands)})"
-    words.append("fragmented" if found["fragmented"] else "progressive" if found["movie"] else "no movie")
+    words.append("fragmented" if found["fragmented"] else "progressive" if found["movie"] else
+                 "no movie" if found["items"] else "no moov")
     if found["fragmented"] and found["segments"]:
         words.append(counted(len(found["segments"]), "segment"))
     if found["moov_first"] is not None:
         words.append(f"moov {'before' if found['moov_first'] else 'after'} the media data")
-    words += [decimal(found["thousandths"]) + " s", f"{rounded(Fraction(found['size'], 1000))} kB"]
+    if timed:
+        words.append(decimal(found["thousandths"]) + " s")
+    size = found["size"]
+    words.append(f"{rounded(Fraction(size, 1000))} kB" if size > 999 else counted(size, "byte"))
     rows = [["chapters" if each["chapters"] else each["kind"] or shown(each["handler"]) or "-", *track_words(each)]
             for each in found["tracks"]]
     rows = [[f"{number} {row[0]}", *row[1:]] for number, row in enumerate(rows, 1)]

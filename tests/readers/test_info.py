@@ -71,7 +71,7 @@ class Info(unittest.TestCase):
             "references": []})
 
     def test_files_without_a_movie(self):
-        self.assertEqual(lines("empty", b"", {}), ["empty  MP4, no movie, 0.000 s, 0 kB"])
+        self.assertEqual(lines("empty", b"", {}), ["empty  no ftyp, no moov, 0 bytes"])
         self.assertEqual(info(front())["tracks"], [])
 
     def test_durations(self):
@@ -86,8 +86,9 @@ class Info(unittest.TestCase):
 
     def test_frame_rates(self):
         for durations, rate in (
-                ([], None), ([5], None), ([0, 0], None), ([1001] * 4, (30000, 1001, True)),
-                ([1001, 1001, 5], (30000, 1001, True)), ([10, 20, 30], (90000, 60, False))):
+                ([], None), ([(1, 5)], None), ([(2, 0)], None), ([(4, 1001)], (30000, 1001, True)),
+                ([(2, 1001), (1, 5)], (30000, 1001, True)), ([(1, 10), (0, 7), (2, 20)], (90000, 50, False)),
+                ([(3, 10), (2, 20)], (150000, 70, False))):
             with self.subTest(durations=durations):
                 self.assertEqual(frame_rate(durations, 30000), rate)
 

@@ -26,9 +26,10 @@ ac3_full acmod =
 abbrev pub ac3_channels : ℕ → Bool → Channels
 ac3_channels acmod lfeon = record { full = ac3_full acmod; low = bit lfeon }
 
--- mono, stereo, or the two numbers with a period between them
+-- mono, stereo, another number of channels, or the two numbers with a period between them
 unfoldable pub channel_text : Channels → List ℕ
 channel_text c =
     if (c.low == 0) && (c.full == 1) then codes "mono"
     else if (c.low == 0) && (c.full == 2) then codes "stereo"
+    else if c.low == 0 then decimal c.full ++ codes " channels"
     else decimal c.full ++ (codes "." ++ decimal c.low)

@@ -126,7 +126,8 @@ are_known [] = true
 are_known (t ∷ ts) = is_track_known t && are_known ts
 
 abbrev pub is_known : FileFacts → Bool
-is_known t = (is_some t.movie || not (length t.fragments.items == 0)) && are_known t.tracks.items
+is_known t =
+    ((is_some t.movie || not (length t.fragments.items == 0)) || t.has_items) && are_known t.tracks.items
 
 -- the boxes inside the first `moov`
 abbrev pub movie_in : List TreeBox → List TreeBox
@@ -164,6 +165,7 @@ pub record IsFileBy (r : InfoReadings) (file : List ℕ) (boxes : List TreeBox) 
   pub brands : t.brands ≡ found reads_ftyp file (first_in 0 (four_cc_of codes.FTYP) boxes)
   pub movie : t.movie ≡ found reads_mvhd file (first_in 1 (four_cc_of codes.MVHD) (movie_in boxes))
   pub fragmented : t.is_fragmented ≡ is_fragmented boxes
+  pub items : t.has_items ≡ is_some (first_in 0 (four_cc_of codes.META) boxes)
   pub order : t.movie_is_first
       ≡ order_of (first_in 0 (four_cc_of codes.MOOV) boxes) (first_in 0 (four_cc_of codes.MDAT) boxes)
   pub index : t.index ≡ found r.sidx file (first_in 0 (four_cc_of codes.SIDX) boxes)

@@ -59,7 +59,7 @@ pub fn ac3_channels(acmod: u8, lfeon: bool) -> Channels
     }
 }
 
-/// Appends the name of `channels`, such as `stereo` or `5.1`.
+/// Appends the name of `channels`, such as `stereo`, `5.1` or `3 channels`.
 #[tactic(auto, unfolding(crate::specs::Channels::channel_text))]
 pub fn push_channels(channels: Channels, out: &mut String) -> Result<()>
     ensures text { OnOk result (string_bytes out.new ≡ string_bytes out.old ++ channel_text channels) }
@@ -71,6 +71,9 @@ pub fn push_channels(channels: Channels, out: &mut String) -> Result<()>
         return out.push_str("stereo");
     }
     push_number(u64::from(channels.full), out)?;
+    if channels.low == 0 {
+        return out.push_str(" channels");
+    }
     out.push_str(".")?;
     push_number(u64::from(channels.low), out)
 }

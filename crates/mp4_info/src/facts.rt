@@ -18,7 +18,9 @@ ghost use Rattle.mp4_walk.specs.FileBoxes.{boxes_of};
 use crate::durations::{Duration, duration_of};
 use crate::entry::{Entry, EntryReading, ReadsEntry, first_entry};
 use crate::found::{found, inside};
-use crate::headers::{HeaderBoxes, Headers, ReadsHeaders, headers_in, id_of, media_in, timescale_of};
+use crate::headers::{
+    HeaderBoxes, Headers, ReadsHeaders, headers_in, id_of, media_in, timescale_of,
+};
 use crate::rates::{FrameRate, bit_rate, frame_rate};
 use crate::run_times::{push_fragment, times_of};
 use crate::tags::{ItemValue, ReadsValue, Tag, tags_in};
@@ -29,10 +31,11 @@ use mp4_flat::MvhdBox;
 use mp4_frame::{ReadBox, codes};
 use mp4_io::{Failure, or_read, read_failure};
 use mp4_movie::{
-    BoxError, BoxLocation, MoofFragments, Movie, MovieError, SampleBoxes, TrackFragment, first_in, tables_in,
+    BoxError, BoxLocation, MoofFragments, Movie, MovieError, SampleBoxes, TrackFragment, first_in,
+    tables_in,
 };
-use mp4_text::{FtypBox, HdlrBox};
 use mp4_tables::SttsEntry;
+use mp4_text::{FtypBox, HdlrBox};
 use mp4_walk::{BoxWalk, Source, TreeBox};
 use std::alloc::{AllocError, Global};
 
@@ -82,6 +85,8 @@ pub struct FileFacts {
     pub movie: Option<MvhdBox>,
     /// True if its movie may have fragments, or the file has some.
     pub is_fragmented: bool,
+    /// True if it has pictures or other items: a `meta` at the top level (8.11.1).
+    pub has_items: bool,
     /// True if its `moov` is before the first `mdat`. `None` without one of them.
     pub movie_is_first: Option<bool>,
     /// Its first index of segments, `sidx`.
@@ -210,7 +215,12 @@ fn track_duration(
         return None;
     };
     let timescale = timescale_of(&headers.media);
-    duration_of(&headers.edits, movie_timescale, timescale, samples.totals.end)
+    duration_of(
+        &headers.edits,
+        movie_timescale,
+        timescale,
+        samples.totals.end,
+    )
 }
 
 /// Returns what is known of a track, in a movie with this timescale and these fragments of all tracks. `trak` begins
@@ -231,7 +241,14 @@ fn track_facts<S: Source>(
     let stbl = stbl_in(trak);
     let entry = first_entry(alloc, walk, handler_of(&headers.handler), stbl)?;
     let id = id_of(&headers.track);
-    let samples = samples_in(alloc, walk, stbl, id, timescale_of(&headers.media), fragments)?;
+    let samples = samples_in(
+        alloc,
+        walk,
+        stbl,
+        id,
+        timescale_of(&headers.media),
+        fragments,
+    )?;
     let duration = track_duration(&headers, &samples, movie_timescale);
     Ok(TrackFacts {
         headers,
@@ -318,12 +335,13 @@ fn are_known(tracks: &[TrackFacts]) -> bool
     true
 }
 
-/// Returns whether a file has a movie or fragments, and the main values of each of its tracks are known. If not, its
-/// faults say why.
+/// Returns whether a file has a movie, fragments or items, and the main values of each of its tracks are known. If not,
+/// its faults say why.
 pub fn is_known(facts: &FileFacts) -> bool
     ensures { result ≡ is_known facts.now }
 {
-    (facts.movie.is_some() || !facts.fragments.is_empty()) && are_known(&facts.tracks)
+    (facts.movie.is_some() || !facts.fragments.is_empty() || facts.has_items)
+        && are_known(&facts.tracks)
 }
 
 /// Returns whether there is a box with `code` in a level.
@@ -428,7 +446,13 @@ fn file_facts<S: Source>(
     let movie = found::<MvhdBox, S>(alloc, walk, inside_movie, 1, codes::MVHD)?;
     let index = found::<SidxBox, S>(alloc, walk, boxes, 0, codes::SIDX)?;
     let fragments = all_pieces(alloc, moofs)?;
-    let tracks = tracks_in(alloc, walk, inside_movie, &fragments, movie_timescale(&movie))?;
+    let tracks = tracks_in(
+        alloc,
+        walk,
+        inside_movie,
+        &fragments,
+        movie_timescale(&movie),
+    )?;
     let tags = tags_in(alloc, walk, inside_movie)?;
     let times = fragment_times_of(alloc, moofs)?;
     Ok(FileFacts {
@@ -436,6 +460,7 @@ fn file_facts<S: Source>(
         brands,
         movie,
         is_fragmented: is_fragmented(boxes),
+        has_items: has_box(boxes, 0, codes::META),
         movie_is_first: order_of(
             first_in(boxes, 0, codes::MOOV),
             first_in(boxes, 0, codes::MDAT),

@@ -50,7 +50,11 @@ fn are_letters(bytes: &[u8]) -> bool
 pub fn letters_or_und(letters: &[u8]) -> &[u8]
     ensures { result.now ≡ letters_or_und letters.now }
 {
-    if are_letters(letters) { letters } else { b"und" }
+    if are_letters(letters) {
+        letters
+    } else {
+        b"und"
+    }
 }
 
 /// Returns the language of a track: the tag of its extended language, unless it is missing or empty, and otherwise

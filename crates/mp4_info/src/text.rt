@@ -19,6 +19,19 @@ const COLUMNS: usize = 7;
 /// The brand of QuickTime, `qt  `.
 const QUICKTIME: u32 = 0x7174_2020;
 
+/// The brands of files of pictures (ISO/IEC 23008-12, 10.2 to 10.4, and AVIF, 6): `mif1`, `msf1`, `heic`, `heix`,
+/// `hevc`, `hevx`, `avif` and `avis`.
+const HEIF: [u32; 8] = [
+    0x6d69_6631,
+    0x6d73_6631,
+    0x6865_6963,
+    0x6865_6978,
+    0x6865_7663,
+    0x6865_7678,
+    0x6176_6966,
+    0x6176_6973,
+];
+
 /// The columns of the line of a track.
 #[derive(Clone, Copy, Debug, PartialEq, Eq)]
 enum Column {
@@ -153,23 +166,37 @@ fn push_brands(alloc: Global, brands: &FtypBox, out: &mut String) -> Result<()> 
     out.push_str(")")
 }
 
-/// Appends the format of a file, and its brands.
-fn push_format(alloc: Global, brands: &Option<FtypBox>, out: &mut String) -> Result<()> {
-    match brands {
-        None => out.push_str("MP4"),
+/// Returns the name of the format with the major brand `brand`.
+fn format_of(brand: FourCC) -> &'static str {
+    let brand = u32::from(brand);
+    if brand == QUICKTIME {
+        "QuickTime"
+    } else if HEIF.contains(&brand) {
+        "HEIF"
+    } else {
+        "MP4"
+    }
+}
+
+/// Returns whether a file has samples: a movie, or fragments.
+fn has_samples(facts: &FileFacts) -> bool {
+    facts.movie.is_some() || facts.is_fragmented
+}
+
+/// Appends the format of a file, and its brands. A file without brands and samples may be anything.
+fn push_format(alloc: Global, facts: &FileFacts, out: &mut String) -> Result<()> {
+    match &facts.brands {
+        None if has_samples(facts) => out.push_str("MP4"),
+        None => out.push_str("no ftyp"),
         Some(brands) => {
-            out.push_str(if u32::from(brands.major_brand) == QUICKTIME {
-                "QuickTime"
-            } else {
-                "MP4"
-            })?;
+            out.push_str(format_of(brands.major_brand))?;
             push_brands(alloc, brands, out)
         }
     }
 }
 
 /// Returns the number of segments of a file: those of its index, or those that begin with a `moof`.
-pub fn segment_count(facts: &FileFacts) -> usize {
+pub(crate) fn segment_count(facts: &FileFacts) -> usize {
     match &facts.index {
         Some(index) => index.entries.as_slice().len(),
         None => facts.fragments.len(),
@@ -181,7 +208,8 @@ fn push_layout(facts: &FileFacts, out: &mut String) -> Result<()> {
     if !facts.is_fragmented {
         return out.push_str(match facts.movie {
             Some(_) => ", progressive",
-            None => ", no movie",
+            None if facts.has_items => ", no movie",
+            None => ", no moov",
         });
     }
     out.push_str(", fragmented")?;
@@ -201,18 +229,39 @@ fn push_order(movie_is_first: Option<bool>, out: &mut String) -> Result<()> {
     }
 }
 
+/// Appends the number of bytes of a file: as it is if it is below 1,000, or in kB.
+fn push_size(length: u64, out: &mut String) -> Result<()> {
+    match length {
+        1 => out.push_str("1 byte"),
+        0..=999 => write!(out, "{length} bytes"),
+        _ => {
+            push_thousands(u128::from(length), out)?;
+            out.push_str(" kB")
+        }
+    }
+}
+
+/// Appends the duration of the longest track, if the file has samples.
+fn push_longest(facts: &FileFacts, out: &mut String) -> Result<()> {
+    if !has_samples(facts) {
+        return Ok(());
+    }
+    out.push_str(", ")?;
+    push_thousandths(longest(&facts.tracks), out)?;
+    out.push_str(" s")
+}
+
 /// Appends the line of a file.
 fn push_file(alloc: Global, name: &str, facts: &FileFacts, out: &mut String) -> Result<()> {
     out.push_str(name)?;
     out.push_str("  ")?;
-    push_format(alloc, &facts.brands, out)?;
+    push_format(alloc, facts, out)?;
     push_layout(facts, out)?;
     push_order(facts.movie_is_first, out)?;
+    push_longest(facts, out)?;
     out.push_str(", ")?;
-    push_thousandths(longest(&facts.tracks), out)?;
-    out.push_str(" s, ")?;
-    push_thousands(u128::from(facts.length), out)?;
-    out.push_str(" kB\n")
+    push_size(facts.length, out)?;
+    out.push_str("\n")
 }
 
 /// Appends the name of a tag: its common name, or its code if it has none.

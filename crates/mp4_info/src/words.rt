@@ -45,7 +45,7 @@ fn push_three(number: u128, out: &mut String) -> Result<()> {
 }
 
 /// Appends a number of thousandths with three decimals.
-pub fn push_thousandths(thousandths: u128, out: &mut String) -> Result<()> {
+pub(crate) fn push_thousandths(thousandths: u128, out: &mut String) -> Result<()> {
     push_large(thousandths / 1000, out)?;
     out.push_str(".")?;
     push_three(thousandths, out)
@@ -70,13 +70,13 @@ fn push_short(thousandths: u128, out: &mut String) -> Result<()> {
 }
 
 /// Appends thousands of `number`, rounded, and up from a half.
-pub fn push_thousands(number: u128, out: &mut String) -> Result<()> {
+pub(crate) fn push_thousands(number: u128, out: &mut String) -> Result<()> {
     let more = if number % 1000 >= 500 { 1 } else { 0 };
     push_large(number / 1000 + more, out)
 }
 
 /// Returns the word for media with this handler, if there is one.
-pub fn kind_of(handler: u32) -> Option<&'static str> {
+pub(crate) fn kind_of(handler: u32) -> Option<&'static str> {
     match handler {
         VIDE => Some("video"),
         SOUN => Some("audio"),
@@ -108,7 +108,7 @@ fn has_chapters(facts: &TrackFacts, id: u32) -> bool {
 }
 
 /// Returns whether the track `facts` has the chapters of another one of `tracks`.
-pub fn are_chapters(tracks: &[TrackFacts], facts: &TrackFacts) -> bool {
+pub(crate) fn are_chapters(tracks: &[TrackFacts], facts: &TrackFacts) -> bool {
     let Some(header) = &facts.headers.track else {
         return false;
     };
@@ -121,7 +121,7 @@ pub fn are_chapters(tracks: &[TrackFacts], facts: &TrackFacts) -> bool {
 }
 
 /// Appends the number of a track, counted from 1, and its kind.
-pub fn push_kind(
+pub(crate) fn push_kind(
     number: usize,
     tracks: &[TrackFacts],
     facts: &TrackFacts,
@@ -142,7 +142,7 @@ pub fn push_kind(
 }
 
 /// Appends the codec of an entry, and the scheme of its encryption.
-pub fn push_codec(entry: &Option<Entry>, out: &mut String) -> Result<()> {
+pub(crate) fn push_codec(entry: &Option<Entry>, out: &mut String) -> Result<()> {
     let Some(entry) = entry else {
         return out.push_str("-");
     };
@@ -191,7 +191,7 @@ fn push_aspect(picture: &Picture, out: &mut String) -> Result<()> {
 
 /// Returns the name of the transfer characteristics of high dynamic range that `colr` states (ISO/IEC 23091-2, 8.2), if
 /// it states some.
-pub fn range_of(colr: &Option<ColrBox>) -> Option<&'static str> {
+pub(crate) fn range_of(colr: &Option<ColrBox>) -> Option<&'static str> {
     let Some(colours) = colours_of(colr) else {
         return None;
     };
@@ -253,7 +253,7 @@ fn push_sound(sound: Sound, out: &mut String) -> Result<()> {
 }
 
 /// Appends the words about the pictures or the sound of a track.
-pub fn push_media(facts: &TrackFacts, out: &mut String) -> Result<()> {
+pub(crate) fn push_media(facts: &TrackFacts, out: &mut String) -> Result<()> {
     let Some(entry) = &facts.entry else {
         return Ok(());
     };
@@ -267,7 +267,7 @@ pub fn push_media(facts: &TrackFacts, out: &mut String) -> Result<()> {
 }
 
 /// Appends a duration in seconds, if it is known.
-pub fn push_duration(duration: Option<Duration>, out: &mut String) -> Result<()> {
+pub(crate) fn push_duration(duration: Option<Duration>, out: &mut String) -> Result<()> {
     match duration {
         Some(duration) => {
             push_thousandths(duration.thousandths, out)?;
@@ -278,7 +278,7 @@ pub fn push_duration(duration: Option<Duration>, out: &mut String) -> Result<()>
 }
 
 /// Appends a bit rate in thousands of bits a second, if it is known.
-pub fn push_bits(samples: &Option<SampleFacts>, out: &mut String) -> Result<()> {
+pub(crate) fn push_bits(samples: &Option<SampleFacts>, out: &mut String) -> Result<()> {
     match samples {
         Some(
             SampleFacts {
@@ -294,7 +294,7 @@ pub fn push_bits(samples: &Option<SampleFacts>, out: &mut String) -> Result<()> 
 }
 
 /// Appends the language of a track, if it is known.
-pub fn push_language(alloc: Global, headers: &Headers, out: &mut String) -> Result<()> {
+pub(crate) fn push_language(alloc: Global, headers: &Headers, out: &mut String) -> Result<()> {
     let text = String::from_utf8_lossy(alloc, language(headers))?;
     push_escaped(text.as_str(), out)
 }
@@ -308,7 +308,7 @@ fn push_counted(count: u64, word: &str, out: &mut String) -> Result<()> {
 }
 
 /// Appends the number of samples of a track and of its key frames, if these are not all samples.
-pub fn push_samples(samples: &Option<SampleFacts>, out: &mut String) -> Result<()> {
+pub(crate) fn push_samples(samples: &Option<SampleFacts>, out: &mut String) -> Result<()> {
     let Some(samples) = samples else {
         return Ok(());
     };
@@ -321,7 +321,7 @@ pub fn push_samples(samples: &Option<SampleFacts>, out: &mut String) -> Result<(
 }
 
 /// Returns the text of a tag, if its value is one: type 1, UTF-8.
-pub fn text_of(tag: &Tag) -> Option<&[u8]> {
+pub(crate) fn text_of(tag: &Tag) -> Option<&[u8]> {
     match &tag.value {
         Some(value) if value.type_set == 0 && value.data_type == 1 => Some(value.value.as_slice()),
         _ => None,

@@ -19,7 +19,7 @@ accepts steps.Any part = true
 accepts (steps.Each code) part = is_code code part.code
 accepts (steps.One one) part = is_code one.code part.code && (part.index == one.index)
 
--- each step accepts the part of the path in its place, and no part is left
+-- each step accepts the part of the path with its index, and no part is left
 abbrev pub accepts_all : List Step → List Part → Bool
 accepts_all [] [] = true
 accepts_all (step ∷ rest) (part ∷ parts) = accepts step part && accepts_all rest parts
@@ -29,7 +29,7 @@ accepts_all _ _ = false
 abbrev pub parts_before : Pattern → ℕ → ℕ
 parts_before pattern n = if pattern.anywhere then n - length pattern.steps.items else 0
 
--- a pattern fits a path: its steps accept the parts that come after those
+-- a pattern fits a path: its steps accept the parts after those
 abbrev pub fits : Pattern → List Part → Bool
 fits pattern path = accepts_all pattern.steps.items (drop (parts_before pattern (length path)) path)
 

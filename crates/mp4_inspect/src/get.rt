@@ -24,7 +24,7 @@ use std::io::Write;
 /// The number of bytes that are read and written at a time.
 const PIECE: u64 = 1 << 20;
 
-/// What is written of the boxes at a pattern.
+/// A form in which the boxes at a pattern are written.
 #[derive(Clone, Copy, Debug, PartialEq, Eq)]
 pub enum GetForm {
     /// Their trees, as text.
@@ -46,13 +46,13 @@ pub struct Get {
     pub pattern: Pattern,
     /// The text of the pattern, for messages.
     pub path: String,
-    /// What is written of the boxes.
+    /// The form in which the boxes are written.
     pub form: GetForm,
     /// The field whose value is written, with `GetForm::Field`.
     pub field: String,
 }
 
-/// What was found.
+/// The result of a search for boxes.
 #[derive(Clone, Copy, Debug, PartialEq, Eq)]
 pub enum Got {
     /// A box, and what is written shows no fault.

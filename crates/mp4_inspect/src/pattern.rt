@@ -50,7 +50,7 @@ fn accepts(step: Step, part: Part) -> bool
     }
 }
 
-/// Returns whether each of `steps` accepts the part of `path` in its place, and no part is left.
+/// Returns whether each of `steps` accepts the part of `path` with its index, and no part is left.
 fn accepts_all(steps: &[Step], path: &[Part]) -> bool
     ensures { result ≡ accepts_all steps.now path.now }
 {

@@ -15,9 +15,9 @@ pub enum Task {
     Check,
     /// The samples of its tracks.
     Samples,
-    /// What it is, as text.
+    /// Its format and its tracks, as text.
     Info,
-    /// What it is, as JSON.
+    /// Its format and its tracks, as JSON.
     InfoJson,
 }
 
@@ -47,12 +47,28 @@ const PLAIN: Checks = Checks {
     strict: false,
 };
 
-/// What the command `get` asks for.
+/// The choice of colours.
+#[derive(Clone, Copy, Debug, PartialEq, Eq)]
+pub enum Color {
+    /// On a terminal that shows them, unless `NO_COLOR` is set.
+    Auto,
+    /// Always.
+    Always,
+    /// Never.
+    Never,
+}
+
+/// The commands.
+pub const COMMANDS: &[&str] = &["info", "check", "samples", "get", "help"];
+/// The values of `--color`.
+const COLORS: &[&str] = &["always", "never", "auto"];
+
+/// The boxes that the command `get` asks for.
 #[derive(Debug, Drop)]
 pub struct Place {
     /// The path of the boxes, a pattern.
     pub path: String,
-    /// What is written of the boxes.
+    /// The form in which the boxes are written.
     pub form: GetForm,
     /// The field whose value is written, with `GetForm::Field`.
     pub field: String,
@@ -67,6 +83,8 @@ pub struct Request {
     pub rows: Option<u32>,
     /// Keeps lines whole on a terminal.
     pub wide: bool,
+    /// The choice of colours.
+    pub color: Color,
     /// The form of the samples in the output.
     pub samples: Rows,
     /// The track_ID of the track whose samples are written; `None` means all tracks.
@@ -77,6 +95,8 @@ pub struct Request {
     pub checks: Checks,
     /// The files, in order; `-` is the standard input. A name that is not UTF-8 has a mark.
     pub files: Vec<String>,
+    /// True if folders among the files stand for the files in them.
+    pub recursive: bool,
     /// The boxes that the command `get` asks for; `None` for other commands.
     pub place: Option<Place>,
 }
@@ -107,6 +127,27 @@ fn number<'a>(alloc: Global, name: &'a str, help: &'a str) -> Arg<'a> {
         .help(help)
 }
 
+/// Returns the option for folders.
+fn recursive<'a>(alloc: Global) -> Arg<'a> {
+    Arg::new(alloc, "recursive")
+        .short('r')
+        .long("recursive")
+        .action(ArgAction::SetTrue)
+        .help(
+            "Read the files in folders and in the folders below them, in the order of their paths",
+        )
+}
+
+/// Returns the option for colours.
+fn color<'a>(alloc: Global) -> Arg<'a> {
+    Arg::new(alloc, "color")
+        .long("color")
+        .value_name("WHEN")
+        .value_parser(COLORS)
+        .default_value("auto")
+        .help("Print colours: auto prints them on a terminal")
+}
+
 /// Returns the command `check`.
 fn check<'a>(alloc: Global) -> Result<Command<'a>, AllocError> {
     let json = "Print an array of JSON objects";
@@ -115,6 +156,7 @@ fn check<'a>(alloc: Global) -> Result<Command<'a>, AllocError> {
         .about("Print only faults, one a line, with position and path; nothing if there are none")
         .arg(flag(alloc, "json", json))?
         .arg(flag(alloc, "strict", strict))?
+        .arg(recursive(alloc))?
         .arg(files(alloc))
 }
 
@@ -126,6 +168,7 @@ fn info<'a>(alloc: Global) -> Result<Command<'a>, AllocError> {
             "Print what a file is: its format, and a line for each track with codec, duration and rates",
         )
         .arg(flag(alloc, "json", json))?
+        .arg(recursive(alloc))?
         .arg(files(alloc))
 }
 
@@ -196,6 +239,7 @@ fn get<'a>(alloc: Global) -> Result<Command<'a>, AllocError> {
         .arg(flag_without_all(alloc, "raw", raw, &["content", "field"])?)?
         .arg(flag_without_all(alloc, "content", content, &["field"])?)?
         .arg(field)?
+        .arg(color(alloc))?
         .arg(file(alloc))?
         .arg(path(alloc))
 }
@@ -214,6 +258,8 @@ fn tree<'a>(alloc: Global) -> Result<Command<'a>, AllocError> {
         .arg(flag_without(alloc, "all", all, "rows")?)?
         .arg(number(alloc, "rows", rows).default_value("8"))?
         .arg(flag(alloc, "wide", wide))?
+        .arg(color(alloc))?
+        .arg(recursive(alloc))?
         .arg(files(alloc))
 }
 
@@ -237,12 +283,22 @@ fn files_of(alloc: Global, matches: &ArgMatches<'_>) -> Result<Vec<String>, Allo
     Ok(files)
 }
 
+/// Returns the choice of colours.
+fn color_of(matches: &ArgMatches<'_>) -> Color {
+    match matches.get_str("color") {
+        Some("always") => Color::Always,
+        Some("never") => Color::Never,
+        _ => Color::Auto,
+    }
+}
+
 /// Returns the request of the command `check`.
 fn check_of(alloc: Global, matches: &ArgMatches<'_>) -> Result<Request, AllocError> {
     Ok(Request {
         task: Task::Check,
         rows: Some(0),
         wide: true,
+        color: Color::Auto,
         samples: Rows::Text,
         track: None,
         beyond: false,
@@ -251,6 +307,7 @@ fn check_of(alloc: Global, matches: &ArgMatches<'_>) -> Result<Request, AllocErr
             strict: matches.get_flag("strict"),
         },
         files: files_of(alloc, matches)?,
+        recursive: matches.get_flag("recursive"),
         place: None,
     })
 }
@@ -265,11 +322,14 @@ fn info_of(alloc: Global, matches: &ArgMatches<'_>) -> Result<Request, AllocErro
         },
         rows: Some(0),
         wide: true,
+        color: Color::Auto,
         samples: Rows::Text,
         track: None,
         beyond: false,
         checks: PLAIN,
         files: files_of(alloc, matches)?,
+        recursive: matches.get_flag("recursive"),
+        place: None,
     })
 }
 
@@ -286,11 +346,13 @@ fn samples_of(alloc: Global, matches: &ArgMatches<'_>) -> Result<Request, AllocE
         task: Task::Samples,
         rows: Some(0),
         wide: true,
+        color: Color::Auto,
         samples,
         track: matches.get_one::<u32>("track"),
         beyond: matches.get_flag("beyond"),
         checks: PLAIN,
         files: files_of(alloc, matches)?,
+        recursive: false,
         place: None,
     })
 }
@@ -326,11 +388,13 @@ fn get_of(alloc: Global, matches: &ArgMatches<'_>) -> Result<Request, AllocError
         },
         rows: None,
         wide: false,
+        color: color_of(matches),
         samples: Rows::Text,
         track: None,
         beyond: false,
         checks: PLAIN,
         files: files_of(alloc, matches)?,
+        recursive: false,
         place: Some(Place {
             path: text_of(alloc, matches, "PATH")?,
             form,
@@ -354,11 +418,13 @@ fn tree_of(alloc: Global, matches: &ArgMatches<'_>) -> Result<Request, AllocErro
         },
         rows,
         wide: matches.get_flag("wide"),
+        color: color_of(matches),
         samples: Rows::Text,
         track: None,
         beyond: false,
         checks: PLAIN,
         files: files_of(alloc, matches)?,
+        recursive: matches.get_flag("recursive"),
         place: None,
     })
 }

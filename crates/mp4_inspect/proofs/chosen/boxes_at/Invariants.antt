@@ -1,4 +1,4 @@
--- The boxes so far are entered, and those of them at the pattern are chosen.
+-- The earlier boxes are entered, and those of them at the pattern are chosen.
 use Rattle.std.proofs.Common.{◌≡◌, ◌++◌, [], drop, fold, take}
 use Rattle.mp4_check.specs.Paths.{AreOpen, entered}
 use Rattle.mp4_inspect.specs.Patterns.{boxes_at, first_of, taken_at}

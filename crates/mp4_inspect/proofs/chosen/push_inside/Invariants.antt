@@ -1,4 +1,4 @@
--- The boxes so far are inside, and they are appended.
+-- The earlier boxes are inside, and they are appended.
 use Rattle.std.proofs.Common.{◌≡◌, ◌+◌, ◌++◌, drop, map}
 use Rattle.mp4_inspect.specs.Patterns.{lifted}
 use Rattle.mp4_inspect.proofs.chosen.push_inside.Given as goal

@@ -1,4 +1,4 @@
--- What the steps that are left accept decides.
+-- The remaining steps and parts decide.
 use Rattle.std.proofs.Common.{◌≡◌, drop, length}
 use Rattle.mp4_inspect.specs.Patterns.{accepts_all}
 use Rattle.mp4_inspect.proofs.pattern.accepts_all.Given as goal
