@@ -9,11 +9,12 @@ _mp4inspect() {
         info) words="--json --help" ;;
         check) words="--json --strict --help" ;;
         get) words="--json --raw --content --field --help" ;;
+        diff) words="--offsets --json --help" ;;
         samples) words="--track --json --csv --beyond --help" ;;
-        help) words="info check samples get" ;;
+        help) words="info check samples get diff" ;;
         *) words="--json --all --rows --wide --help --version" ;;
     esac
-    ((COMP_CWORD > 1)) || words="info check samples get help --json --all --rows --wide --help --version"
+    ((COMP_CWORD > 1)) || words="info check samples get diff help --json --all --rows --wide --help --version"
     mapfile -t COMPREPLY < <(
         compgen -W "$words" -- "$word"
         [[ $word == -* || ( $COMP_CWORD -gt 1 && $command == help ) ]] || compgen -f -- "$word"

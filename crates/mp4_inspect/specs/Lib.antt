@@ -1,7 +1,12 @@
+pub mod BytesDiffer
 pub mod Checked
+pub mod Differences
 pub mod Heading
 pub mod Json
 pub mod Opened
 pub mod Outcome
+pub mod Pairs
 pub mod Patterns
+pub mod RowChanges
+pub mod Rows
 pub mod Written

@@ -1,0 +1,14 @@
+-- The boxes so far are entered, and those that are left have no partners yet.
+use Rattle.std.proofs.Common.{◌≡◌, ◌++◌, [], drop, fold, take, List}
+use Rattle.mp4_check.specs.Paths.{AreOpen, entered}
+use Rattle.mp4_inspect.specs.Pairs.{AreNumbers, partners_of, paths, paths_from}
+use Rattle.mp4_inspect.proofs.pairs.partners_of.Given as goal
+use Rattle.mp4_walk.specs.declared.tree_box.TreeBox.{TreeBox}
+
+abbrev pub invariant-boxes : goal.invariant-boxes
+invariant-boxes l = record {
+  opened : AreOpen (fold entered [] (take l.found-index l.boxes)) l.paths.levels.items;
+  so_far : (others : List TreeBox) → AreNumbers others l.numbers → l.partners.items
+      ++ partners_of (paths_from (fold entered [] (take l.found-index l.boxes)) (drop l.found-index l.boxes)) (paths others)
+      ≡ partners_of (paths l.boxes) (paths others);
+}
