@@ -11,5 +11,6 @@ pub mod OpenPaths
 pub mod Outcomes
 pub mod Pairs
 pub mod RunPieces
+pub mod SampleLoops
 pub mod ShownFaults
 pub mod Steps

@@ -16,6 +16,7 @@ pub mod Overlap
 pub mod Parts
 pub mod Paths
 pub mod References
+pub mod SampleFaults
 pub mod Siblings
 pub mod TrackFaults
 pub mod TrackTables

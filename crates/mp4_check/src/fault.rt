@@ -7,11 +7,12 @@ use crate::duration::Duration;
 use crate::outside::Outside;
 use crate::overlap::Overlap;
 use crate::path::Part;
+use crate::sample_faults::SampleFaults;
 use mp4_content::NotMp4;
 use mp4_frame::Error;
 use mp4_samples::Disagreement;
 
-/// What is wrong. Positions, offsets and sizes are in bytes.
+/// A cause of a fault. Positions, offsets and sizes are in bytes.
 #[derive(Clone, Copy, Debug)]
 pub enum What {
     /// The file is not an MP4 file.
@@ -85,6 +86,10 @@ pub enum What {
         /// The position.
         position: u64,
     },
+    /// NAL units don't fill samples.
+    Units(SampleFaults),
+    /// Samples have a part of a frame of PCM.
+    Frames(SampleFaults),
 }
 
 /// The kind of a fault. Its word never changes.
@@ -134,6 +139,10 @@ pub enum Code {
     DecodeTimeBack,
     /// See `What::IndexSizes`.
     IndexSizes,
+    /// See `What::Units`.
+    NalUnitsMisfit,
+    /// See `What::Frames`.
+    PcmFramesCut,
 }
 
 /// The severity of a fault.
@@ -163,9 +172,9 @@ pub struct Fault {
     pub position: u64,
     /// The path of that box.
     pub path: Vec<Part>,
-    /// What is wrong.
+    /// The cause.
     pub what: What,
-    /// What the library says about it.
+    /// The error of the library.
     pub reason: Reason,
 }
 
@@ -197,6 +206,8 @@ impl What {
             What::RunsOutside(_) => Code::RunOutsideMedia,
             What::TimeBack { .. } => Code::DecodeTimeBack,
             What::IndexSizes { .. } => Code::IndexSizes,
+            What::Units(_) => Code::NalUnitsMisfit,
+            What::Frames(_) => Code::PcmFramesCut,
         }
     }
 }
@@ -225,7 +236,8 @@ impl Code {
             | Code::MediaDuration
             | Code::TrackDuration
             | Code::MovieDuration
-            | Code::DecodeTimeBack => Severity::Warning,
+            | Code::DecodeTimeBack
+            | Code::PcmFramesCut => Severity::Warning,
             _ => Severity::Failure,
         }
     }
@@ -257,6 +269,8 @@ impl Code {
             Code::RunOutsideMedia => "run-outside-media",
             Code::DecodeTimeBack => "decode-time-back",
             Code::IndexSizes => "index-sizes",
+            Code::NalUnitsMisfit => "nal-units-misfit",
+            Code::PcmFramesCut => "pcm-frames-cut",
         }
     }
 }

@@ -1,0 +1,2 @@
+pub mod LookedSamples
+pub mod PassedUnits
