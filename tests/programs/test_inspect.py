@@ -126,14 +126,16 @@ class Runs:
         self.same([json.dumps(it) for it in objects], [json.dumps({"file": "-", **it}) for it in found],
                   what + ", faults as JSON")
 
-    def sampled(self, data, what, chosen=None, path="-", beyond=False):
+    def sampled(self, data, what, chosen=None, path="-", beyond=False, seconds=False, sync=False):
         """Compares the samples that the program shows for `data` in each form with the second computation: rows,
         faults, status."""
         ends = {"input": data} if path == "-" else {}
         for form, words in (("text", []), ("csv", ["--csv"]), ("json", ["--json"])):
-            text, faults_, status = written(data, form, chosen, beyond)
+            text, faults_, status = written(data, form, chosen, beyond, seconds, sync)
             words += [] if chosen is None else ["--track", str(chosen)]
             words += ["--beyond"] if beyond else []
+            words += ["--seconds"] if seconds else []
+            words += ["--sync"] if sync else []
             done = self.run("samples", *words, path, **ends)
             if done.returncode != status:
                 fail(f"samples {words} of {what}: status {done.returncode} and not {status}, {done.stderr.decode()}")
@@ -418,6 +420,8 @@ def samples(runs, folder, files):
             runs.sampled(data, name, chosen)
         runs.sampled(data, name, None, os.path.basename(write_file(folder, "sampled.mp4", data)))
         runs.sampled(data, name, None, "-", True)
+        runs.sampled(data, name, seconds=True)
+        runs.sampled(data, name, sync=True)
     runs.sampled(b"", "an empty file")
     data = files["tables"]
     write_file(folder, "sampled.mp4", data)

@@ -9,11 +9,12 @@ the one that `--track` names.
     disagreement(tables)                 how the tables of an `stbl` disagree, as `mp4inspect check` prints it
 """
 
+import fractions
 import functools
 import itertools
 import struct
 
-HEAD = "track,number,offset,size,decode_time,presentation_time,duration,sync,description\n"
+HEAD = "track,number,offset,size,decode_time,presentation_time,duration,sync,description,timescale\n"
 COLUMNS = ["number", "offset", "size", "decode_time", "presentation_time", "duration", "sync", "description"]
 WIDTHS = [8, 12, 9, 12, 17, 9, 4, 11]
 # The most samples that are returned in a list, and the most without bytes that are listed in a row.
@@ -444,7 +445,7 @@ class File:
         return tables
 
     def track(self, trak, beyond=True):
-        """Returns the number of a track, its heading, its samples, and a list of its faults. It has at most one fault
+        """Returns the number of a track, its timescale, its heading, its samples, and a list of its faults. It has at most one fault
         of its samples. If its number can't be read, that is another, and it has no fragments."""
         number, name, scale = self.headers(trak)
         title, lost = f"track {number}", []
@@ -453,36 +454,48 @@ class File:
         if not isinstance(name, Bad):
             is_text = all(0x20 <= byte < 0x7F for byte in name)
             title += ", " + (name.decode() if is_text else str(int.from_bytes(name, "big")))
-        if not isinstance(scale, Bad):
+        scale = None if isinstance(scale, Bad) else scale
+        if scale is not None:
             title += f", timescale {scale}"
         heading = f"{title}\n" + "  ".join(name.rjust(width) for name, width in zip(COLUMNS, WIDTHS)) + "\n"
         try:
             tables = self.tables(trak)
         except Bad as bad:
-            return number, "", [], [*lost, bad.args[0]]
+            return number, scale, "", [], [*lost, bad.args[0]]
         samples, found = self.listed(number, tables, beyond)
-        return number, heading, samples, lost + found
+        return number, scale, heading, samples, lost + found
 
 
-def row(form, track, number, sample):
+def in_seconds(time, scale):
+    """Returns a time in seconds, rounded to the nearest millionth. A half is rounded away from 0."""
+    if not scale:
+        return None
+    rounded = int(fractions.Fraction(abs(time) * 1000000, scale) + fractions.Fraction(1, 2))
+    return f"{'-' if time < 0 else ''}{rounded // 1000000}.{rounded % 1000000:06}"
+
+
+def row(form, track, scale, number, sample, seconds):
+    """Returns the row of a sample. A value that isn't known is empty in CSV, null in JSON and - in text."""
     offset, size, time, duration, shift, is_sync, description = sample
-    values = [number, offset, size, time, time + shift, duration, int(is_sync), description]
+    times = [in_seconds(it, scale) if seconds else it for it in (time, time + shift, duration)]
+    values = [number, offset, size, *times, int(is_sync), description]
+    if form == "text":
+        return "  ".join(("-" if value is None else str(value)).rjust(width) for value, width in zip(values, WIDTHS)) + "\n"
+    values = [track, *values, scale]
     if form == "csv":
-        return ",".join(map(str, ["" if track is None else track, *values])) + "\n"
-    if form == "json":
-        track = "null" if track is None else track
-        return "{" + ", ".join(f'"{name}": {value}' for name, value in zip(["track", *COLUMNS], [track, *values])) + "}"
-    return "  ".join(str(value).rjust(width) for value, width in zip(values, WIDTHS)) + "\n"
+        return ",".join("" if value is None else str(value) for value in values) + "\n"
+    return "{" + ", ".join(f'"{name}": {"null" if value is None else value}'
+                           for name, value in zip(["track", *COLUMNS, "timescale"], values)) + "}"
 
 
-def written(data, form, chosen=None, beyond=False):
-    """Returns the output, the faults and the status. A fault is the track's number, if it is known, and the text, if it
+def written(data, form, chosen=None, beyond=False, seconds=False, sync=False):
+    """Returns the output, the faults and the status, with times in seconds, or for sync samples only. A fault is the track's number, if it is known, and the text, if it
     is not the codec's."""
     file, pieces, faults = File(data), [], []
     faults += [(None, words) for words in file.faults]
     met = set()
     for trak in file.tracks:
-        number, heading, samples, found = file.track(trak, beyond)
+        number, scale, heading, samples, found = file.track(trak, beyond)
         if number is None:
             found = [words and f"trak at {trak[1]}: {words}" for words in found[:1 if chosen is not None else None]]
         if number is None and chosen is not None:
@@ -490,7 +503,8 @@ def written(data, form, chosen=None, beyond=False):
         elif chosen is None or chosen == number and number not in met:
             if form == "text" and heading:
                 pieces.append(("\n" if pieces else "") + heading)
-            pieces += [row(form, number, index, sample) for index, sample in enumerate(samples, 1)]
+            pieces += [row(form, number, scale, index, sample, seconds) for index, sample in enumerate(samples, 1)
+                       if sample[5] or not sync]
             faults += [(number, words) for words in found]
         met.add(number)
         file.fragments.pop(number, None)

@@ -1,5 +1,10 @@
+pub mod EditParts
 pub mod Listed
 pub mod Row
 pub mod RowText
 pub mod Rows
+pub mod Samples
+pub mod Segments
+pub mod Times
 pub mod Tracks
+pub mod Trafs

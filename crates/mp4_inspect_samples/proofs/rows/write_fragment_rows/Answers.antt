@@ -1,11 +1,12 @@
-use Rattle.std.proofs.Common.{◌≡◌, ℕ, ◌+◌, true, refl, subst, sym, ◌∙◌, arith, rules}
+use Rattle.std.proofs.Common.{◌≡◌, ℕ, ◌+◌, true, length, ap, refl, subst, sym, ◌∙◌, arith, rules}
 use Rattle.mp4_inspect_samples.proofs.RowLists.{writes_none, writes_next, begins_next, begins_all, on_err}
 use Rattle.mp4_inspect_samples.proofs.rows.write_fragment_rows.Goals as goal
 use Rattle.mp4_inspect_samples.specs.Listed.{is_listed}
+use Rattle.mp4_inspect_samples.specs.Row.{labels_of}
 use Rattle.mp4_inspect_samples.specs.Rows.{WritesRows}
 use Rattle.mp4_samples.proofs.Fragments.{no_runs_samples}
 use Rattle.mp4_samples.specs.FragmentGives.{begins, number_of, sample_total}
-use Rattle.mp4_samples.specs.Fragments.{IsFragmentSample, Faults}
+use Rattle.mp4_samples.specs.Fragments.{IsFragmentSample, Faults, sample_time}
 use Rattle.mp4_samples.specs.declared.fragment.Fragment.{Fragment}
 
 pub loop-init : goal.loop-init
@@ -20,11 +21,11 @@ loop-init g c =
       mark = search rules;
       count = rw c.samples-samples.ensures (omega (arith, none));
       written = rw c.samples-samples.ensures
-          (subst (λ (j : ℕ). WritesRows (IsFragmentSample f) c.args.limit c.args.writer.now.form c.args.track
+          (subst (λ (j : ℕ). WritesRows (IsFragmentSample f) c.args.limit c.args.writer.now.form (labels_of c.args.rule.now)
           c.args.before c.args.empty_before j c.args.empty_before
           c.args.writer.now.follows c.args.writer.now.follows (g.W.Write.contents c.args.output.now.inner)
           (g.W.Write.contents c.args.output.now.inner)) (sym zero)
-          (writes_none (IsFragmentSample f) c.args.limit c.args.writer.now.form c.args.track c.args.before
+          (writes_none (IsFragmentSample f) c.args.limit c.args.writer.now.form (labels_of c.args.rule.now) c.args.before
           c.args.empty_before c.args.writer.now.follows
           (g.W.Write.contents c.args.output.now.inner)));
     }
@@ -42,27 +43,27 @@ loop-preserved g c =
     record {
       fragment = gives.2 ∙ c.loop.invariant.fragment;
       on = gives.4;
-      form = c.in_ok-write_row-in-Some-Ok.ensures.form ∙ c.loop.invariant.form;
+      form = c.in_ok-write_sample-in-Some-Ok.ensures.form ∙ c.loop.invariant.form;
       mark = search rules;
       count = omega (arith, next, count);
-      written = writes_next (IsFragmentSample f) c.args.limit c.args.writer.now.form c.args.track c.args.before
+      written = writes_next (IsFragmentSample f) c.args.limit c.args.writer.now.form (labels_of c.args.rule.now) c.args.before
           c.args.empty_before c.args.writer.now.follows (number_of c.loop.samples) (number_of c.next.new.self)
           (c.loop.count + 1) c.loop.empty c.empty_after-empty.result c.loop.writer.form c.loop.writer.follows
-          c.write_row.new.writer.follows
+          c.write_sample.new.writer.follows
           (g.W.Write.contents c.args.output.now.inner) (g.W.Write.contents c.loop.output.inner)
-          (g.W.Write.contents c.write_row.new.output.inner) c.in-Some-Ok.sample c.row_of.result
-          c.loop.invariant.written is listed c.empty_after-empty.ensures next c.row_of.ensures (omega (arith, count))
+          (g.W.Write.contents c.write_sample.new.output.inner) c.in-Some-Ok.sample
+          c.loop.invariant.written is listed c.empty_after-empty.ensures next (omega (arith, count))
           c.loop.invariant.form
-          c.in_ok-write_row-in-Some-Ok.ensures.follows c.in_ok-write_row-in-Some-Ok.ensures.row;
+          c.in_ok-write_sample-in-Some-Ok.ensures.follows c.in_ok-write_sample-in-Some-Ok.ensures.row;
     }
 
 pub returns-then-count-clause-begins : goal.returns-then-count-clause-begins
 returns-then-count-clause-begins g c =
-    begins_all (IsFragmentSample c.args.fragment.now) c.args.limit c.args.writer.now.form c.args.track c.args.before
+    begins_all (IsFragmentSample c.args.fragment.now) c.args.limit c.args.writer.now.form (labels_of c.args.rule.now) c.args.before
     c.args.empty_before c.args.writer.now.follows _ _ _ _ _ c.loop.invariant.written
 
-pub returns-in_err-write_row-in-Some-Ok-clause-begins : goal.returns-in_err-write_row-in-Some-Ok-clause-begins
-returns-in_err-write_row-in-Some-Ok-clause-begins g c =
+pub returns-in_err-write_sample-in-Some-Ok-clause-begins : goal.returns-in_err-write_sample-in-Some-Ok-clause-begins
+returns-in_err-write_sample-in-Some-Ok-clause-begins g c =
     let f = c.args.fragment.now in
     let gives = rw c.in-Some-Ok.field-0-is at c.in-Some-Ok.ensures.steps in
     let is = subst (λ (f : Fragment). IsFragmentSample f (number_of c.loop.samples) c.in-Some-Ok.sample)
@@ -71,13 +72,13 @@ returns-in_err-write_row-in-Some-Ok-clause-begins g c =
     let listed : is_listed c.args.limit c.loop.empty c.in-Some-Ok.sample ≡ true =
     sym c.is_listed.ensures ∙ c.if-not-is_listed.false in
     on_err _
-    (begins_next (IsFragmentSample f) c.args.limit c.args.writer.now.form c.args.track c.args.before
+    (begins_next (IsFragmentSample f) c.args.limit c.args.writer.now.form (labels_of c.args.rule.now) c.args.before
     c.args.empty_before c.args.writer.now.follows
     (number_of c.loop.samples) (c.loop.count + 1) c.loop.empty c.loop.writer.form c.loop.writer.follows
     (g.W.Write.contents c.args.output.now.inner) (g.W.Write.contents c.loop.output.inner)
-    (g.W.Write.contents c.write_row.new.output.inner) c.in-Some-Ok.sample c.row_of.result
-    c.loop.invariant.written is listed c.row_of.ensures (omega (arith, count)) c.loop.invariant.form
-    c.in_err-write_row-in-Some-Ok.ensures.begins)
+    (g.W.Write.contents c.write_sample.new.output.inner) c.in-Some-Ok.sample
+    c.loop.invariant.written is listed (omega (arith, count)) c.loop.invariant.form
+    c.in_err-write_sample-in-Some-Ok.ensures.begins)
 
 pub returns-in-Some-Err-clause-rows : goal.returns-in-Some-Err-clause-rows
 returns-in-Some-Err-clause-rows g c =
@@ -91,6 +92,7 @@ returns-in-Some-Err-clause-rows g c =
             c.loop.invariant.fragment gives.1,
       );
       rows = c.loop.invariant.written;
+      time = λ u e. absurd cc;
     }
 
 pub returns-then-not-is_listed-clause-rows : goal.returns-then-not-is_listed-clause-rows
@@ -105,10 +107,13 @@ returns-then-not-is_listed-clause-rows g c =
         sym c.is_listed.ensures ∙ c.if-not-is_listed.true,
       );
       rows = c.loop.invariant.written;
+      time = λ u e. absurd cc;
     }
 
 pub returns-in-None-clause-rows : goal.returns-in-None-clause-rows
 returns-in-None-clause-rows g c =
+    let f = c.args.fragment.now in
+    let t = c.next.new.self in
     let gives = c.in-None.ensures.steps in
     let last = gives.0 c.loop.invariant.on in
     record {
@@ -116,9 +121,15 @@ returns-in-None-clause-rows g c =
       count = c.loop.invariant.count;
       ends = subst (λ (f : Fragment). number_of c.loop.samples ≡ sample_total f) c.loop.invariant.fragment last.0;
       rows = c.loop.invariant.written;
+      time = λ u e.
+          c.time.ensures
+          ∙ ap (λ (g : Fragment). sample_time g t.run t.index) (gives.2 ∙ c.loop.invariant.fragment)
+          ∙ ap (λ (r : ℕ). sample_time f r t.index)
+          (last.1 ∙ ap (λ (g : Fragment). length g.runs.now) c.loop.invariant.fragment)
+          ∙ ap (λ (j : ℕ). sample_time f (length f.runs.now) j) last.2;
     }
 
 pub returns-clause-begins : goal.returns-clause-begins
 returns-clause-begins g c =
-    begins_all (IsFragmentSample c.args.fragment.now) c.args.limit c.args.writer.now.form c.args.track c.args.before
+    begins_all (IsFragmentSample c.args.fragment.now) c.args.limit c.args.writer.now.form (labels_of c.args.rule.now) c.args.before
     c.args.empty_before c.args.writer.now.follows _ _ _ _ _ c.loop.invariant.written
