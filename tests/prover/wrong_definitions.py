@@ -56,7 +56,7 @@ LONGEST = 33_000
 # The rows and the first crate have tests that are named after single boxes. Most changes fail in the rows, and then the
 # other tests need not run.
 NAMED = [ROWS, "test_boxes"]
-TEST_CRATES = [*NAMED, "mp4_vectors", "mp4_ported"]
+TEST_CRATES = [*NAMED, "mp4_vectors"]
 # A crate with tests beside it. Only these see changes of its boxes.
 OWN = "example_box"
 # The crates of boxes that no other box uses: their changes are made together, and with no others.

@@ -14,6 +14,7 @@ mod kept;
 mod media_tables;
 mod memory;
 mod mp4a;
+mod ported;
 mod printed;
 mod references;
 mod samples;
