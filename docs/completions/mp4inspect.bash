@@ -6,13 +6,14 @@ _mp4inspect() {
         --rows | --track | --field) return ;;
     esac
     case $command in
+        info) words="--json --help" ;;
         check) words="--json --strict --help" ;;
         get) words="--json --raw --content --field --help" ;;
         samples) words="--track --json --csv --beyond --help" ;;
-        help) words="check samples get" ;;
+        help) words="info check samples get" ;;
         *) words="--json --all --rows --wide --help --version" ;;
     esac
-    ((COMP_CWORD > 1)) || words="check samples get help --json --all --rows --wide --help --version"
+    ((COMP_CWORD > 1)) || words="info check samples get help --json --all --rows --wide --help --version"
     mapfile -t COMPREPLY < <(
         compgen -W "$words" -- "$word"
         [[ $word == -* || ( $COMP_CWORD -gt 1 && $command == help ) ]] || compgen -f -- "$word"

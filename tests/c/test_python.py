@@ -310,6 +310,14 @@ class Files(Python):
             for matrix in ((0, 1 << 16, 0, -1 << 16, 0, 0, 0, 0, 1 << 30),
                            (-1 << 16, 0, 0, 0, -1 << 16, 0, 0, 0, 1 << 30))))], [90, 180])
 
+    def test_codec_strings(self):
+        """The string of a codec is that of `mp4inspect info`, over the rows of codec_strings.txt."""
+        from tests.programs.test_info import with_entry
+        from tests.readers.codec_strings import rows
+        for number, text, code, boxes in rows():
+            with self.subTest(line=number):
+                self.assertEqual(self.module.File(with_entry(code, boxes)).tracks[0].codec, text)
+
     def test_codes_of_two_boxes(self):
         """The box around it decides which box has a code: each has its own class, or none."""
         from tests.files import made

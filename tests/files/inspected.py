@@ -10,7 +10,7 @@ from tests.files.made import made
 from tests.files.stored import FILES, stored, stored_names
 
 SIZES = [0, 1, 2, 7, 8, 9, 12, 15, 16, 17, 24, 100, 2**31, 2**32 - 1]
-TYPES = {"object": dict, "array": list, "string": str, "null": type(None)}
+TYPES = {"object": dict, "array": list, "string": str, "boolean": bool, "null": type(None)}
 
 
 def files():

@@ -3,7 +3,7 @@
 import math
 import struct
 import typing
-from typing import Any, Callable, List, Optional, Tuple, TypeVar
+from typing import Any, Callable, List, Optional, Tuple, TypeVar, Union
 
 from . import _fields, calls, classes
 from .calls import Mp4Error
@@ -235,7 +235,7 @@ def _codec(code: str, entry: "Box") -> str:
 
 
 def _profile(code: str, entry: "Box") -> Optional[str]:
-    if code in ("avc1", "avc3"):
+    if code in ("avc1", "avc2", "avc3", "avc4"):
         avc = entry["avcC"].read(classes.AvcC)
         numbers = avc.avc_profile_indication, avc.profile_compatibility, avc.avc_level_indication
         return f"{code}.{bytes(numbers).hex()}"
@@ -243,17 +243,53 @@ def _profile(code: str, entry: "Box") -> Optional[str]:
         return f"{code}.{_hevc(entry['hvcC'].read(classes.HvcC))}"
     if code == "av01":
         av1 = entry["av1C"].read(classes.Av1C)
-        depth = 12 if av1.twelve_bit else 10 if av1.high_bitdepth else 8
-        return f"av01.{av1.seq_profile}.{av1.seq_level_idx_0:02}{'MH'[av1.seq_tier_0]}.{depth:02}"
+        return f"av01.{_av1(av1, entry.find('colr'))}"
     if code in ("vp08", "vp09"):
-        vp9 = entry["vpcC"].read(classes.VpcC)
-        return f"{code}.{vp9.profile:02}.{vp9.level:02}.{vp9.bit_depth:02}"
-    if code == "mp4a":
+        return f"{code}.{_vp(entry['vpcC'].read(classes.VpcC))}"
+    if code in ("mp4a", "mp4v"):
         box = entry.find("esds") or entry["wave/esds"]
-        esds = box.read(classes.Esds)
-        kind = esds.object_type_indication
-        return f"mp4a.{kind:02x}.{esds.profile}" if kind == 0x40 else f"mp4a.{kind:02x}"
+        return f"{code}.{_mpeg4(box.read(classes.Esds), bytes(box.content))}"
+    if code in ("dvh1", "dvhe", "dva1", "dvav"):
+        found = entry.find("dvcC")
+        dolby: "Union[classes.DvcC, classes.DvvC]" = (
+            found.read(classes.DvcC) if found else entry["dvvC"].read(classes.DvvC))
+        return f"{code}.{dolby.dv_profile:02}.{dolby.dv_level:02}"
     return None
+
+
+def _av1(av1: "classes.Av1C", colr: Optional["Box"]) -> str:
+    """Returns the profile, level, tier and depth of AV1 video, and the optional elements if the colours are known (AV1
+    Codec ISO Media File Format Binding, 5)."""
+    depth = (12 if av1.twelve_bit and av1.seq_profile == 2 else 10) if av1.high_bitdepth else 8
+    text = f"{av1.seq_profile}.{av1.seq_level_idx_0:02}{'MH'[av1.seq_tier_0]}.{depth:02}"
+    colours = colr.read(classes.Colr) if colr else None
+    if colours is None or colours.colour_type != "nclx":
+        return text
+    across, down = int(av1.chroma_subsampling_x), int(av1.chroma_subsampling_y)
+    position = av1.chroma_sample_position if across and down else 0
+    optional = (f"{int(av1.monochrome)}.{across}{down}{position}.{colours.colour_primaries:02}."
+                f"{colours.transfer_characteristics:02}.{colours.matrix_coefficients:02}."
+                f"{int(bool(colours.full_range_flag))}")
+    return text if optional == "0.110.01.01.01.0" else f"{text}.{optional}"
+
+
+def _vp(vp: "classes.VpcC") -> str:
+    """Returns the profile, level and depth of VP8 or VP9 video, and the optional elements unless all have their
+    defaults (VP Codec ISO Media File Format Binding)."""
+    optional = (vp.chroma_subsampling, vp.color_primaries, vp.transfer_characteristics, vp.matrix_coefficients,
+                int(vp.video_full_range_flag))
+    numbers = (vp.profile, vp.level, vp.bit_depth, *(() if optional == (1, 1, 1, 1, 0) else optional))
+    return ".".join(f"{number:02}" for number in numbers)
+
+
+def _mpeg4(esds: "classes.Esds", content: bytes) -> str:
+    """Returns the object type of MPEG-4 audio or video and its profile (RFC 6381, 3.3). That of video is in the
+    sequence header among the bytes of the `esds`."""
+    kind = esds.object_type_indication
+    at = content.find(b"\0\0\1\xb0")
+    if kind == 0x20 and 0 <= at < len(content) - 4:
+        return f"{kind:02X}.{content[at + 4]}"
+    return f"{kind:02X}.{esds.profile}" if kind == 0x40 and esds.profile else f"{kind:02X}"
 
 
 def _hevc(hevc: "classes.HvcC") -> str:
@@ -261,5 +297,5 @@ def _hevc(hevc: "classes.HvcC") -> str:
     space = " ABC"[hevc.general_profile_space].strip()
     flags = int(f"{hevc.general_profile_compatibility_flags:032b}"[::-1], 2)
     tier = "LH"[hevc.general_tier_flag]
-    constraints = [f".{it:x}" for it in hevc.general_constraint_indicator_flags.rstrip(b"\0")]
-    return f"{space}{hevc.general_profile_idc}.{flags:x}.{tier}{hevc.general_level_idc}{''.join(constraints)}"
+    constraints = [f".{it:X}" for it in hevc.general_constraint_indicator_flags.rstrip(b"\0")]
+    return f"{space}{hevc.general_profile_idc}.{flags:X}.{tier}{hevc.general_level_idc}{''.join(constraints)}"

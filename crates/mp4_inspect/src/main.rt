@@ -115,6 +115,13 @@ fn refuse(rt: &HostRuntime, shown: &str, what: &str) -> Outcome {
     Outcome::Failed
 }
 
+/// Prints to standard error that a file has faults because of which values are not known.
+fn tell_unknown(rt: &HostRuntime, shown: &str) {
+    let _ = eprintln!(rt;
+        "mp4inspect: {shown}: some values are not known: mp4inspect check says why"
+    );
+}
+
 /// Prints to standard error that a file is empty.
 fn refuse_empty(rt: &HostRuntime, shown: &str) -> Outcome {
     let _ = eprintln!(rt; "mp4inspect: {shown}: this is not an MP4 file: it is empty");
@@ -177,7 +184,7 @@ fn inspect_source<B: Shown, S: Source, W: Write>(
     let is_empty = show.task != Task::Samples && matches!(source.length(), Ok(0));
     let mut faults = Vec::new(rt.alloc());
     let name = match show.task {
-        Task::Json => file.name,
+        Task::Json | Task::InfoJson => file.name,
         Task::Check if show.checks.json => file.name,
         _ => file.shown,
     };
@@ -197,6 +204,9 @@ fn inspect_source<B: Shown, S: Source, W: Write>(
     }
     if let Err(failure) = run {
         tell(rt, file.shown, failure, source.error);
+    }
+    if matches!(show.task, Task::Info | Task::InfoJson) && !is_empty && matches!(run, Ok(true)) {
+        tell_unknown(rt, file.shown);
     }
     if is_empty {
         return refuse_empty(rt, file.shown).or_worse(Outcome::of_file(
@@ -317,7 +327,7 @@ fn inspect_all<W: Write>(
     let look = look_of(rt, request);
     let mut follows = false;
     let mut any = false;
-    let is_array = request.task == Task::Json || request.checks.json;
+    let is_array = matches!(request.task, Task::Json | Task::InfoJson) || request.checks.json;
     if is_array {
         write_all(output, b"[")?;
     }

@@ -19,6 +19,7 @@ use mp4_check::{Form, Told, write_faults};
 use mp4_content::Shown;
 use mp4_extra::SidxBox;
 use mp4_frame::ReadBox;
+use mp4_info::{facts_of, info_json, info_text, is_known};
 use mp4_inspect_samples::{Choice, TrackFault, write_samples};
 use mp4_io::{Failure, Output, or_read, write_all};
 use mp4_movie::{Movie, TrackInfo};
@@ -246,6 +247,35 @@ pub fn check_file<B: Shown, S: Source, W: Write>(
     })
 }
 
+/// Writes the lines about a source. Returns whether a main value is not known.
+fn show_info<S: Source, W: Write>(
+    alloc: Global,
+    name: &str,
+    source: S,
+    output: &mut Output<W>,
+) -> Result<bool, Failure> {
+    let facts = facts_of(alloc, source)?;
+    let text = info_text(alloc, name, &facts)?;
+    write_all(output, text.as_str().as_bytes())?;
+    Ok(!is_known(&facts))
+}
+
+/// Writes the JSON object about a source, after a comma if it follows another. Returns whether a main value is not
+/// known.
+fn show_info_json<S: Source, W: Write>(
+    alloc: Global,
+    name: &str,
+    source: S,
+    follows: bool,
+    output: &mut Output<W>,
+) -> Result<bool, Failure> {
+    let facts = facts_of(alloc, source)?;
+    let text = info_json(alloc, name, &facts)?;
+    write_comma(follows, output)?;
+    write_all(output, text.as_slice())?;
+    Ok(!is_known(&facts))
+}
+
 /// Writes the requested output for a file, unless its faults are requested: `check_file` writes these. Returns whether
 /// it has a fault. After an error a beginning of the tree is written. `faults` gets the faults of tracks whose samples
 /// are written.
@@ -279,6 +309,8 @@ pub fn inspect<B: Shown, S: Source, W: Write>(
         }
         Task::Json => show_json::<B, S, W>(alloc, name, source, show.follows, output),
         Task::Check => Ok(false),
+        Task::Info => show_info(alloc, name, source, output),
+        Task::InfoJson => show_info_json(alloc, name, source, show.follows, output),
         Task::Samples => {
             write_samples(alloc, source, show.samples, output, faults)?;
             Ok(!faults.is_empty())

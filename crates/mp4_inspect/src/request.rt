@@ -15,6 +15,10 @@ pub enum Task {
     Check,
     /// The samples of its tracks.
     Samples,
+    /// Its format and its tracks, as text.
+    Info,
+    /// Its format and its tracks, as JSON.
+    InfoJson,
 }
 
 /// The form of the samples in the output.
@@ -114,6 +118,17 @@ fn check<'a>(alloc: Global) -> Result<Command<'a>, AllocError> {
         .arg(files(alloc))
 }
 
+/// Returns the command `info`.
+fn info<'a>(alloc: Global) -> Result<Command<'a>, AllocError> {
+    let json = "Print an array of JSON objects, with exact numbers";
+    Command::new(alloc, "info")
+        .about(
+            "Print what a file is: its format, and a line for each track with codec, duration and rates",
+        )
+        .arg(flag(alloc, "json", json))?
+        .arg(files(alloc))
+}
+
 /// Returns the option `name` without a value, which excludes the option `other`.
 fn flag_without<'a>(
     alloc: Global,
@@ -195,6 +210,7 @@ fn tree<'a>(alloc: Global) -> Result<Command<'a>, AllocError> {
 /// Returns the whole command line.
 fn command<'a>(alloc: Global) -> Result<Command<'a>, AllocError> {
     tree(alloc)?
+        .subcommand(info(alloc)?)?
         .subcommand(check(alloc)?)?
         .subcommand(samples(alloc)?)?
         .subcommand(get(alloc)?)
@@ -224,6 +240,25 @@ fn check_of(alloc: Global, matches: &ArgMatches<'_>) -> Result<Request, AllocErr
             json: matches.get_flag("json"),
             strict: matches.get_flag("strict"),
         },
+        files: files_of(alloc, matches)?,
+        place: None,
+    })
+}
+
+/// Returns the request of the command `info`.
+fn info_of(alloc: Global, matches: &ArgMatches<'_>) -> Result<Request, AllocError> {
+    Ok(Request {
+        task: if matches.get_flag("json") {
+            Task::InfoJson
+        } else {
+            Task::Info
+        },
+        rows: Some(0),
+        wide: true,
+        samples: Rows::Text,
+        track: None,
+        beyond: false,
+        checks: PLAIN,
         files: files_of(alloc, matches)?,
         place: None,
     })
@@ -324,6 +359,7 @@ fn asked(alloc: Global, matches: &ArgMatches<'_>) -> Result<Request, AllocError>
     match matches.subcommand() {
         Some(("samples", inner)) => samples_of(alloc, inner),
         Some(("get", inner)) => get_of(alloc, inner),
+        Some(("info", inner)) => info_of(alloc, inner),
         Some((_, inner)) => check_of(alloc, inner),
         None => tree_of(alloc, matches),
     }

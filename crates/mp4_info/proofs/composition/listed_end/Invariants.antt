@@ -1,0 +1,9 @@
+-- The samples from the index on lead from the end so far to that of all.
+use Rattle.std.proofs.Common.{◌≡◌, drop}
+use Rattle.mp4_info.specs.Composition.{listed_end}
+use Rattle.mp4_info.proofs.composition.listed_end.Given as goal
+
+abbrev pub invariant-loop-index : goal.invariant-loop-index
+invariant-loop-index l =
+    listed_end l.version l.default l.durations l.index l.time l.latest (drop l.index l.offsets)
+    ≡ listed_end l.version l.default l.durations 0 0 0 l.offsets

@@ -1,0 +1,591 @@
+//! The JSON object about a file.
+
+use crate::channels::push_channels;
+use crate::codec::colours_of;
+use crate::durations::{Duration, whole_duration};
+use crate::entry::{Entry, Protection, is_encrypted};
+use crate::facts::{FileFacts, FragmentTime, SampleFacts, TrackFacts, longest};
+use crate::headers::{Headers, language, timescale_of, turn};
+use crate::picture::Picture;
+use crate::rates::FrameRate;
+use crate::sound::Sound;
+use crate::tags::Tag;
+use crate::words::{are_chapters, kind_of, push_thousandths, range_of, text_of};
+use mp4_extra_media::colr::Nclx;
+use mp4_extra_segments::sidx::SidxBox;
+use mp4_extra_segments::tref::TrackReference;
+use mp4_flat::MvhdBox;
+use mp4_frame::FourCC;
+use mp4_show::json_text;
+use mp4_shown::Result;
+use mp4_shown_json::JsonSink;
+use mp4_text::FtypBox;
+use mp4_walk::name_of;
+use std::alloc::Global;
+
+/// Writes a member with a number.
+fn put_number(name: &str, number: u64, sink: &mut JsonSink) -> Result<()> {
+    sink.out.key(name)?;
+    sink.out.u64(number)
+}
+
+/// Writes a member with a number, or `null` without one.
+fn put_number_if(name: &str, number: Option<u64>, sink: &mut JsonSink) -> Result<()> {
+    match number {
+        Some(number) => put_number(name, number, sink),
+        None => put_null(name, sink),
+    }
+}
+
+/// Writes a member with the number in `text`.
+fn put_digits(name: &str, text: &str, sink: &mut JsonSink) -> Result<()> {
+    sink.out.key(name)?;
+    if json::is_number(text) {
+        sink.out.number(text)
+    } else {
+        sink.out.null()
+    }
+}
+
+/// Writes a member with a number that may be large.
+fn put_large(alloc: Global, name: &str, number: u128, sink: &mut JsonSink) -> Result<()> {
+    let mut text = String::new(alloc);
+    write!(text, "{number}")?;
+    put_digits(name, text.as_str(), sink)
+}
+
+/// Writes a member with a number of thousandths as a decimal.
+fn put_thousandths(alloc: Global, name: &str, number: u128, sink: &mut JsonSink) -> Result<()> {
+    let mut text = String::new(alloc);
+    push_thousandths(number, &mut text)?;
+    put_digits(name, text.as_str(), sink)
+}
+
+/// Writes a member with a text.
+fn put_text(name: &str, text: &str, sink: &mut JsonSink) -> Result<()> {
+    sink.out.key(name)?;
+    sink.out.string(text)
+}
+
+/// Writes a member with a text, or `null` without one.
+fn put_text_if(name: &str, text: Option<&str>, sink: &mut JsonSink) -> Result<()> {
+    match text {
+        Some(text) => put_text(name, text, sink),
+        None => put_null(name, sink),
+    }
+}
+
+/// Writes a member with a code.
+fn put_code(name: &str, code: FourCC, sink: &mut JsonSink) -> Result<()> {
+    sink.out.key(name)?;
+    sink.code(code)
+}
+
+/// Writes a member with a code, or `null` without one.
+fn put_code_if(name: &str, code: Option<FourCC>, sink: &mut JsonSink) -> Result<()> {
+    match code {
+        Some(code) => put_code(name, code, sink),
+        None => put_null(name, sink),
+    }
+}
+
+/// Writes a member with a flag.
+fn put_flag(name: &str, flag: bool, sink: &mut JsonSink) -> Result<()> {
+    sink.out.key(name)?;
+    sink.out.boolean(flag)
+}
+
+/// Writes a member with `null`.
+fn put_null(name: &str, sink: &mut JsonSink) -> Result<()> {
+    sink.out.key(name)?;
+    sink.out.null()
+}
+
+/// Writes the members of a duration.
+fn put_duration(alloc: Global, duration: Duration, sink: &mut JsonSink) -> Result<()> {
+    put_thousandths(alloc, "seconds", duration.thousandths, sink)?;
+    put_large(alloc, "ticks", duration.ticks, sink)?;
+    put_number("ticks_per_second", duration.ticks_per_second, sink)
+}
+
+/// Writes a member with a duration, or `null` without one.
+fn put_duration_if(
+    alloc: Global,
+    name: &str,
+    duration: Option<Duration>,
+    sink: &mut JsonSink,
+) -> Result<()> {
+    let Some(duration) = duration else {
+        return put_null(name, sink);
+    };
+    sink.out.key(name)?;
+    sink.out.begin_object()?;
+    put_duration(alloc, duration, sink)?;
+    sink.out.end_object()
+}
+
+/// Writes the brands of a file: the major brand, then the compatible ones.
+fn put_brands(brands: &Option<FtypBox>, sink: &mut JsonSink) -> Result<()> {
+    sink.out.key("brands")?;
+    sink.out.begin_array()?;
+    if let Some(brands) = brands {
+        sink.code(brands.major_brand)?;
+        for brand in brands.compatible_brands.as_slice() {
+            sink.code(*brand)?;
+        }
+    }
+    sink.out.end_array()
+}
+
+/// Writes whether the `moov` is before the media data.
+fn put_order(movie_is_first: Option<bool>, sink: &mut JsonSink) -> Result<()> {
+    match movie_is_first {
+        Some(first) => put_flag("moov_first", first, sink),
+        None => put_null("moov_first", sink),
+    }
+}
+
+/// Writes the duration that the header of the movie states.
+fn put_stated(alloc: Global, movie: &Option<MvhdBox>, sink: &mut JsonSink) -> Result<()> {
+    let stated = match movie {
+        Some(movie) => whole_duration(movie.duration, movie.timescale),
+        None => None,
+    };
+    put_duration_if(alloc, "stated_duration", stated, sink)
+}
+
+/// Writes the segments of an index.
+fn put_index(alloc: Global, index: &SidxBox, sink: &mut JsonSink) -> Result<()> {
+    for entry in index.entries.as_slice() {
+        sink.out.begin_object()?;
+        put_number("bytes", u64::from(entry.referenced_size), sink)?;
+        let ticks = u64::from(entry.subsegment_duration);
+        let duration = whole_duration(ticks, index.timescale);
+        put_duration_if(alloc, "duration", duration, sink)?;
+        sink.out.end_object()?;
+    }
+    Ok(())
+}
+
+/// Returns the timescale of the track with this track_ID, or 0 without one.
+fn timescale_by(tracks: &[TrackFacts], id: u32) -> u32 {
+    for track in tracks {
+        if let Some(header) = &track.headers.track
+            && header.track_id == id
+        {
+            return timescale_of(&track.headers.media);
+        }
+    }
+    0
+}
+
+/// Writes the segment that begins with a `moof`.
+fn put_fragment(
+    alloc: Global,
+    tracks: &[TrackFacts],
+    fragment: FragmentTime,
+    sink: &mut JsonSink,
+) -> Result<()> {
+    let timescale = timescale_by(tracks, fragment.track_id);
+    let duration = whole_duration(fragment.ticks, timescale);
+    sink.out.begin_object()?;
+    put_number("position", fragment.position, sink)?;
+    put_duration_if(alloc, "duration", duration, sink)?;
+    sink.out.end_object()
+}
+
+/// Writes the segments of a file: those of its index, or those that begin with a `moof`.
+fn put_segments(alloc: Global, facts: &FileFacts, sink: &mut JsonSink) -> Result<()> {
+    sink.out.key("segments")?;
+    sink.out.begin_array()?;
+    match &facts.index {
+        Some(index) => put_index(alloc, index, sink)?,
+        None => {
+            for fragment in facts.fragments.as_slice() {
+                put_fragment(alloc, &facts.tracks, *fragment, sink)?;
+            }
+        }
+    }
+    sink.out.end_array()
+}
+
+/// Returns the code of an entry before it was encrypted, if it is known.
+fn original_code(entry: &Entry) -> Option<FourCC> {
+    if entry.protection.original == entry.code {
+        None
+    } else {
+        Some(entry.protection.original)
+    }
+}
+
+/// Writes the protection of an entry, or `null` for one that is not encrypted.
+fn put_protection(alloc: Global, entry: &Entry, sink: &mut JsonSink) -> Result<()> {
+    if !is_encrypted(entry.code) {
+        return put_null("encryption", sink);
+    }
+    sink.out.key("encryption")?;
+    sink.out.begin_object()?;
+    put_code_if("original", original_code(entry), sink)?;
+    put_scheme(alloc, entry.protection, sink)?;
+    sink.out.end_object()
+}
+
+/// Writes the scheme and the default key of a protection.
+fn put_scheme(alloc: Global, protection: Protection, sink: &mut JsonSink) -> Result<()> {
+    put_code_if("scheme", protection.scheme, sink)?;
+    match protection.key {
+        Some(key) => {
+            let digits = hex::encode(alloc, key)?;
+            put_text("key", digits.as_str(), sink)
+        }
+        None => put_null("key", sink),
+    }
+}
+
+/// Writes the codec of an entry, and its protection.
+fn put_entry(alloc: Global, entry: &Option<Entry>, sink: &mut JsonSink) -> Result<()> {
+    match entry {
+        Some(entry) => {
+            put_code("entry", entry.code, sink)?;
+            put_text("codec", entry.codec.as_str(), sink)?;
+            put_protection(alloc, entry, sink)
+        }
+        None => {
+            put_null("entry", sink)?;
+            put_null("codec", sink)?;
+            put_null("encryption", sink)
+        }
+    }
+}
+
+/// Writes the headers of a track.
+fn put_headers(tracks: &[TrackFacts], facts: &TrackFacts, sink: &mut JsonSink) -> Result<()> {
+    match &facts.headers.track {
+        Some(header) => put_number("track_id", u64::from(header.track_id), sink)?,
+        None => put_null("track_id", sink)?,
+    }
+    match &facts.headers.handler {
+        Some(handler) => {
+            put_code("handler", handler.handler_type, sink)?;
+            put_text_if("kind", kind_of(u32::from(handler.handler_type)), sink)?;
+        }
+        None => {
+            put_null("handler", sink)?;
+            put_null("kind", sink)?;
+        }
+    }
+    put_flag("chapters", are_chapters(tracks, facts), sink)
+}
+
+/// Writes the language of a track, or `null` if it is not known.
+fn put_language(alloc: Global, headers: &Headers, sink: &mut JsonSink) -> Result<()> {
+    let found = language(headers);
+    if found.is_empty() {
+        return put_null("language", sink);
+    }
+    let text = String::from_utf8_lossy(alloc, found)?;
+    put_text("language", text.as_str(), sink)
+}
+
+/// Returns the duration of the media of a track, up to the end of its last sample.
+fn media_duration(facts: &TrackFacts) -> Option<Duration> {
+    match facts.samples {
+        Some(samples) => whole_duration(samples.totals.end, timescale_of(&facts.headers.media)),
+        None => None,
+    }
+}
+
+/// Writes the totals of the samples of a track.
+fn put_samples(alloc: Global, samples: Option<SampleFacts>, sink: &mut JsonSink) -> Result<()> {
+    let Some(samples) = samples else {
+        put_null("samples", sink)?;
+        put_null("key_frames", sink)?;
+        put_null("bytes", sink)?;
+        return put_null("bit_rate", sink);
+    };
+    put_number("samples", samples.totals.samples, sink)?;
+    put_number("key_frames", samples.totals.key_frames, sink)?;
+    put_number("bytes", samples.totals.bytes, sink)?;
+    match samples.bit_rate {
+        Some(rate) => put_large(alloc, "bit_rate", rate, sink),
+        None => put_null("bit_rate", sink),
+    }
+}
+
+/// Writes the members of a frame rate.
+fn put_rate(alloc: Global, rate: FrameRate, sink: &mut JsonSink) -> Result<()> {
+    put_thousandths(alloc, "per_second", rate.thousandths, sink)?;
+    put_large(alloc, "frames", rate.frames, sink)?;
+    put_number("units", rate.units, sink)?;
+    put_flag("constant", rate.is_constant, sink)
+}
+
+/// Writes the frame rate of a track, or `null` without one.
+fn put_rate_if(alloc: Global, samples: Option<SampleFacts>, sink: &mut JsonSink) -> Result<()> {
+    let rate = match samples {
+        Some(samples) => samples.frame_rate,
+        None => None,
+    };
+    let Some(rate) = rate else {
+        return put_null("frame_rate", sink);
+    };
+    sink.out.key("frame_rate")?;
+    sink.out.begin_object()?;
+    put_rate(alloc, rate, sink)?;
+    sink.out.end_object()
+}
+
+/// Writes the size of pictures, or `null` for each number if the entry is too short.
+fn put_size(picture: &Picture, sink: &mut JsonSink) -> Result<()> {
+    match picture.size {
+        Some(size) => {
+            put_number("width", u64::from(size.width), sink)?;
+            put_number("height", u64::from(size.height), sink)
+        }
+        None => {
+            put_null("width", sink)?;
+            put_null("height", sink)
+        }
+    }
+}
+
+/// Writes the shape of pixels, or `null` if it is not stated.
+fn put_aspect(picture: &Picture, sink: &mut JsonSink) -> Result<()> {
+    let Some(aspect) = &picture.aspect else {
+        return put_null("pixel_aspect", sink);
+    };
+    sink.out.key("pixel_aspect")?;
+    sink.out.begin_object()?;
+    put_number("horizontal", u64::from(aspect.h_spacing), sink)?;
+    put_number("vertical", u64::from(aspect.v_spacing), sink)?;
+    sink.out.end_object()
+}
+
+/// Writes the members of colours.
+fn put_nclx(colours: Nclx, sink: &mut JsonSink) -> Result<()> {
+    put_number("primaries", u64::from(colours.colour_primaries), sink)?;
+    put_number(
+        "transfer",
+        u64::from(colours.transfer_characteristics),
+        sink,
+    )?;
+    put_number("matrix", u64::from(colours.matrix_coefficients), sink)?;
+    put_flag("full_range", colours.full_range_flag, sink)
+}
+
+/// Writes the colours of pictures, or `null` if they are not stated by numbers.
+fn put_colours(picture: &Picture, sink: &mut JsonSink) -> Result<()> {
+    let Some(colours) = colours_of(&picture.colours) else {
+        return put_null("colours", sink);
+    };
+    sink.out.key("colours")?;
+    sink.out.begin_object()?;
+    put_nclx(colours, sink)?;
+    sink.out.end_object()
+}
+
+/// Writes the display on which a video was mastered, or `null` if it is not stated.
+fn put_mastering(picture: &Picture, sink: &mut JsonSink) -> Result<()> {
+    let Some(mastering) = &picture.mastering else {
+        return put_null("mastering", sink);
+    };
+    let most = u64::from(mastering.max_display_mastering_luminance);
+    let least = u64::from(mastering.min_display_mastering_luminance);
+    sink.out.key("mastering")?;
+    sink.out.begin_object()?;
+    put_number("max_luminance", most, sink)?;
+    put_number("min_luminance", least, sink)?;
+    sink.out.end_object()
+}
+
+/// Writes the brightness of the content, or `null` if it is not stated.
+fn put_light(picture: &Picture, sink: &mut JsonSink) -> Result<()> {
+    let Some(light) = &picture.light else {
+        return put_null("light", sink);
+    };
+    sink.out.key("light")?;
+    sink.out.begin_object()?;
+    put_number(
+        "max_content",
+        u64::from(light.max_content_light_level),
+        sink,
+    )?;
+    put_number(
+        "max_average",
+        u64::from(light.max_pic_average_light_level),
+        sink,
+    )?;
+    sink.out.end_object()
+}
+
+/// Writes the high dynamic range of pictures.
+fn put_range(picture: &Picture, sink: &mut JsonSink) -> Result<()> {
+    put_colours(picture, sink)?;
+    put_text_if("dynamic_range", range_of(&picture.colours), sink)?;
+    put_mastering(picture, sink)?;
+    put_light(picture, sink)
+}
+
+/// Writes the pictures of a track.
+fn put_picture(
+    alloc: Global,
+    facts: &TrackFacts,
+    picture: &Picture,
+    sink: &mut JsonSink,
+) -> Result<()> {
+    put_size(picture, sink)?;
+    let degrees = match turn(&facts.headers.track) {
+        Some(degrees) => Some(u64::from(degrees)),
+        None => None,
+    };
+    put_number_if("rotation", degrees, sink)?;
+    put_aspect(picture, sink)?;
+    put_rate_if(alloc, facts.samples, sink)?;
+    put_range(picture, sink)
+}
+
+/// Writes the channels of sound, or `null` if they are not known.
+fn put_channels(alloc: Global, sound: Sound, sink: &mut JsonSink) -> Result<()> {
+    let Some(channels) = sound.channels else {
+        return put_null("channels", sink);
+    };
+    let mut name = String::new(alloc);
+    push_channels(channels, &mut name)?;
+    sink.out.key("channels")?;
+    sink.out.begin_object()?;
+    put_text("layout", name.as_str(), sink)?;
+    put_number("full", u64::from(channels.full), sink)?;
+    put_number("low", u64::from(channels.low), sink)?;
+    sink.out.end_object()
+}
+
+/// Writes the sound of a track.
+fn put_sound(alloc: Global, sound: Sound, sink: &mut JsonSink) -> Result<()> {
+    put_number_if("sample_rate", sound.sample_rate, sink)?;
+    put_channels(alloc, sound, sink)
+}
+
+/// Writes the pictures or the sound of a track.
+fn put_media(alloc: Global, facts: &TrackFacts, sink: &mut JsonSink) -> Result<()> {
+    let Some(entry) = &facts.entry else {
+        return Ok(());
+    };
+    if let Some(picture) = &entry.picture {
+        return put_picture(alloc, facts, picture, sink);
+    }
+    match entry.sound {
+        Some(sound) => put_sound(alloc, sound, sink),
+        None => Ok(()),
+    }
+}
+
+/// Writes the references of one type to other tracks.
+fn put_reference(reference: &TrackReference, sink: &mut JsonSink) -> Result<()> {
+    sink.out.begin_object()?;
+    put_code("type", reference.reference_type, sink)?;
+    sink.out.key("track_ids")?;
+    sink.out.begin_array()?;
+    for id in reference.track_ids.as_slice() {
+        sink.out.u64(u64::from(*id))?;
+    }
+    sink.out.end_array()?;
+    sink.out.end_object()
+}
+
+/// Writes the references of a track to other tracks.
+fn put_references(headers: &Headers, sink: &mut JsonSink) -> Result<()> {
+    sink.out.key("references")?;
+    sink.out.begin_array()?;
+    if let Some(references) = &headers.references {
+        for reference in references.references.as_slice() {
+            put_reference(reference, sink)?;
+        }
+    }
+    sink.out.end_array()
+}
+
+/// Writes the object of a track.
+fn put_track(
+    alloc: Global,
+    tracks: &[TrackFacts],
+    facts: &TrackFacts,
+    sink: &mut JsonSink,
+) -> Result<()> {
+    sink.out.begin_object()?;
+    put_headers(tracks, facts, sink)?;
+    put_entry(alloc, &facts.entry, sink)?;
+    put_duration_if(alloc, "duration", facts.duration, sink)?;
+    put_duration_if(alloc, "media_duration", media_duration(facts), sink)?;
+    put_samples(alloc, facts.samples, sink)?;
+    put_language(alloc, &facts.headers, sink)?;
+    put_media(alloc, facts, sink)?;
+    put_references(&facts.headers, sink)?;
+    sink.out.end_object()
+}
+
+/// Writes the tracks of a file.
+fn put_tracks(alloc: Global, tracks: &[TrackFacts], sink: &mut JsonSink) -> Result<()> {
+    sink.out.key("tracks")?;
+    sink.out.begin_array()?;
+    for track in tracks {
+        put_track(alloc, tracks, track, sink)?;
+    }
+    sink.out.end_array()
+}
+
+/// Writes the name and the value of a tag.
+fn put_value(alloc: Global, tag: &Tag, sink: &mut JsonSink) -> Result<()> {
+    match text_of(tag) {
+        Some(text) => {
+            let text = String::from_utf8_lossy(alloc, text)?;
+            put_text("text", text.as_str(), sink)
+        }
+        None => put_null("text", sink),
+    }
+}
+
+/// Writes the object of a tag.
+fn put_tag(alloc: Global, tag: &Tag, sink: &mut JsonSink) -> Result<()> {
+    sink.out.begin_object()?;
+    put_code_if("code", tag.code, sink)?;
+    let name = match tag.code {
+        Some(code) => name_of(code),
+        None => None,
+    };
+    put_text_if("name", name, sink)?;
+    put_value(alloc, tag, sink)?;
+    sink.out.end_object()
+}
+
+/// Writes the tags of a file.
+fn put_tags(alloc: Global, tags: &[Tag], sink: &mut JsonSink) -> Result<()> {
+    sink.out.key("tags")?;
+    sink.out.begin_array()?;
+    for tag in tags {
+        put_tag(alloc, tag, sink)?;
+    }
+    sink.out.end_array()
+}
+
+/// Writes the members of a file.
+fn put_file(alloc: Global, name: &str, facts: &FileFacts, sink: &mut JsonSink) -> Result<()> {
+    put_text("file", name, sink)?;
+    put_number("size", facts.length, sink)?;
+    put_brands(&facts.brands, sink)?;
+    put_flag("fragmented", facts.is_fragmented, sink)?;
+    put_order(facts.movie_is_first, sink)?;
+    put_thousandths(alloc, "seconds", longest(&facts.tracks), sink)?;
+    put_stated(alloc, &facts.movie, sink)?;
+    put_segments(alloc, facts, sink)?;
+    put_tags(alloc, &facts.tags, sink)?;
+    put_tracks(alloc, &facts.tracks, sink)
+}
+
+/// Returns the JSON object about a file with this name.
+pub fn info_json(alloc: Global, name: &str, facts: &FileFacts) -> Result<Vec<u8>> {
+    let mut sink = JsonSink::new(alloc);
+    sink.out.begin_object()?;
+    put_file(alloc, name, facts, &mut sink)?;
+    sink.out.end_object()?;
+    json_text(alloc, sink)
+}
