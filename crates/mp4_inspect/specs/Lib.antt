@@ -1,6 +1,7 @@
 pub mod Checked
 pub mod Heading
 pub mod Json
+pub mod Listed
 pub mod Opened
 pub mod Outcome
 pub mod Patterns

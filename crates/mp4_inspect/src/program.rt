@@ -6,6 +6,7 @@ ghost use Rattle.mp4_check.specs.Faults.{WritesCheck};
 ghost use Rattle.mp4_inspect.specs.Checked.{ChecksFile, form_of, is_bad};
 ghost use Rattle.mp4_inspect.specs.Heading.{heading_of};
 ghost use Rattle.mp4_inspect.specs.Json.{comma, WritesJson};
+ghost use Rattle.mp4_inspect.specs.Listed.{SamplesFile};
 ghost use Rattle.mp4_inspect.specs.Written.{WritesFile, BeginsFile};
 ghost use Rattle.mp4_io.specs.Ends.{is_write};
 ghost use Rattle.mp4_movie.specs.Infos.{AreInfos};
@@ -276,6 +277,23 @@ fn show_info_json<S: Source, W: Write>(
     Ok(!is_known(&facts))
 }
 
+/// Writes the samples of a source, and stores the faults of its tracks. Returns whether a fault is stored.
+fn show_samples<S: Source, W: Write>(
+    alloc: Global,
+    source: S,
+    samples: Choice,
+    output: &mut Output<W>,
+    faults: &mut Vec<TrackFault>,
+) -> Result<bool, Failure>
+    ensures samples { IfSome (S.all source)
+        (λ bytes. IfOk result
+        (SamplesFile samples bytes (W.contents output.old.inner) (W.contents output.new.inner) faults.old.items
+        faults.new.items)) }
+{
+    write_samples(alloc, source, samples, output, faults)?;
+    Ok(!faults.as_slice().is_empty())
+}
+
 /// Writes the requested output for a file, unless its faults are requested: `check_file` writes these. Returns whether
 /// it has a fault. After an error a beginning of the tree is written. `faults` gets the faults of tracks whose samples
 /// are written.
@@ -301,6 +319,11 @@ pub fn inspect<B: Shown, S: Source, W: Write>(
         (λ bytes. IfOk result
         (λ faulty. WritesJson B.known B.named_reading bytes name.now show.follows (W.contents output.old.inner)
         (W.contents output.new.inner) faulty)) }
+    ensures samples { show.task ≡ Task.Samples
+        → IfSome (S.all source)
+        (λ bytes. IfOk result
+        (SamplesFile show.samples bytes (W.contents output.old.inner) (W.contents output.new.inner) faults.old.items
+        faults.new.items)) }
 {
     match show.task {
         Task::Tree => {
@@ -311,9 +334,6 @@ pub fn inspect<B: Shown, S: Source, W: Write>(
         Task::Check => Ok(false),
         Task::Info => show_info(alloc, name, source, output),
         Task::InfoJson => show_info_json(alloc, name, source, show.follows, output),
-        Task::Samples => {
-            write_samples(alloc, source, show.samples, output, faults)?;
-            Ok(!faults.is_empty())
-        }
+        Task::Samples => show_samples(alloc, source, show.samples, output, faults),
     }
 }

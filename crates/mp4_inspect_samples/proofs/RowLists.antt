@@ -1,29 +1,20 @@
 -- Rows that are written one after the other.
 use Rattle.std.proofs.Common.{◌≡◌, ℕ, suc, ◌+◌, Bool, true, List, [], ◌∷◌, ◌++◌, length, take}
 use Rattle.std.proofs.Common.{Result, Ok, Err, refl, sym, ap, subst, ◌∙◌, append_assoc, arith}
-use Rattle.std.specs.Prelude.{IfOk, OnErr}
+use Rattle.std.specs.Prelude.{OnErr}
 use Rattle.std.specs.declared.option.Option.{Option}
 use Rattle.std.proofs.KnownBytes.{Appends-nil, Appends-trans}
 use Rattle.std.proofs.Math.Seq.{take-append-add, take-length}
 use Rattle.std.proofs.lemmas.List.{append-nil, length-append}
 use Rattle.std.specs.Io.KnownBytes.{Appends}
-use Rattle.mp4_movie.specs.Ends.{end_of}
-use Rattle.mp4_movie.specs.Tables.{AreTablesOf}
-use Rattle.mp4_movie.specs.declared.sample_boxes.SampleBoxes.{SampleBoxes}
-use Rattle.mp4_samples.specs.Samples.{AreConsistent}
 use Rattle.mp4_samples.specs.declared.sample.Sample.{Sample}
-use Rattle.mp4_samples.specs.declared.tables.Tables.{Tables}
 use Rattle.mp4_inspect_samples.specs.Listed.{is_listed, empty_after, empty_at_end, AreListed}
 use Rattle.mp4_inspect_samples.specs.Row.{row_of}
 use Rattle.mp4_inspect_samples.specs.RowText.{row_text}
 use Rattle.mp4_inspect_samples.specs.Rows.{Follow, rows_text, is_after, Begins, WritesRows, BeginsRows}
-use Rattle.mp4_inspect_samples.specs.Tracks.{WritesBoxes, WritesTables}
-use Rattle.mp4_inspect_samples.specs.declared.fault.TrackName.{TrackName}
 use Rattle.mp4_inspect_samples.specs.declared.limit.Limit.{Limit}
-use Rattle.mp4_inspect_samples.specs.declared.reached.Reached.{Reached}
 use Rattle.mp4_inspect_samples.specs.declared.row.Row.{Row}
 use Rattle.mp4_inspect_samples.specs.declared.row_text.Form.{Form}
-use Rattle.mp4_inspect_samples.specs.declared.track_stop.TrackStop.{TrackStop}
 
 -- what holds of any outcome holds of a failed one
 pub on_err : {A E P : Type 0} (r : Result A E) → P → OnErr r P
@@ -187,21 +178,3 @@ module _ (Is : ℕ → Sample → Type 0) (limit : Limit) (form : Form) (track :
       bytes = subst (λ (t : List ℕ). Appends old new t) (sym (take-length _)) rows.bytes;
     };
   }
-
--- rows of the tables that the boxes of a sample table make
-pub of_boxes : (boxes : SampleBoxes) (made tables : Tables) (time : ℕ) (limit : Limit) (form : Form) (name : TrackName)
-    (follows is_followed : Bool) (old new : Option (List ℕ)) (result : Result Reached TrackStop)
-    → AreTablesOf boxes made → tables ≡ made → AreConsistent made
-    → time ≡ end_of boxes.stts.entries
-    → IfOk result (WritesTables tables time limit form name follows is_followed old new)
-    → IfOk result (WritesBoxes boxes limit form name follows is_followed old new)
-of_boxes boxes made tables time limit form name follows is_followed old new (Ok reached) are same agree ends writes =
-    record {
-      tables = made;
-      are = are;
-      agree = agree;
-      writes =
-          subst (λ (n : ℕ). WritesTables made n limit form name follows is_followed old new reached) ends
-          (subst (λ (t : Tables). WritesTables t time limit form name follows is_followed old new reached) same writes);
-    }
-of_boxes boxes made tables time limit form name follows is_followed old new (Err e) are same agree ends writes = tt

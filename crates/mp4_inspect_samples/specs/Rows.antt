@@ -4,7 +4,7 @@ use Rattle.std.specs.Prelude.{◌≡◌, ◌≢◌, ℕ, ◌+◌, Bool, true, Li
 use Rattle.std.specs.declared.option.Option.{Option}
 use Rattle.std.specs.Io.KnownBytes.{Appends}
 use Rattle.mp4_samples.specs.FragmentGives.{sample_total}
-use Rattle.mp4_samples.specs.Fragments.{IsFragmentSample, Faults}
+use Rattle.mp4_samples.specs.Fragments.{IsFragmentSample, Faults, sample_time}
 use Rattle.mp4_samples.specs.declared.fragment.Fragment.{Fragment}
 use Rattle.mp4_samples.specs.declared.fragment_fault.FragmentFault.{FragmentFault}
 use Rattle.mp4_samples.specs.declared.sample.Sample.{Sample}
@@ -72,6 +72,10 @@ abbrev pub EndsAfter : Fragment → Limit → ℕ → ℕ → Option Sample → 
 EndsAfter f limit m empty unlisted None = EndsListed (IsFragmentSample f) limit (sample_total f) m empty unlisted
 EndsAfter f limit m empty unlisted (Some fault) = (unlisted ≡ None) × Faults f m fault
 
+-- the time at which the last sample of a fragment ends
+abbrev pub end_time : Fragment → ℕ
+end_time f = sample_time f (length f.runs.now) 0
+
 -- the rows of the samples of a fragment are appended, all of them or those before the first that isn't listed or has a
 -- fault
 pub record WritesFragment (f : Fragment) (limit : Limit) (form : Form) (track : Option ℕ) (n empty : ℕ)
@@ -80,6 +84,7 @@ pub record WritesFragment (f : Fragment) (limit : Limit) (form : Form) (track : 
   pub count : end.count ≡ n + samples
   pub ends : EndsAfter f limit samples end.empty end.unlisted end.fault
   pub rows : WritesRows (IsFragmentSample f) limit form track n empty samples end.empty follows is_followed old new
+  pub time : end.unlisted ≡ None → end.fault ≡ None → end.time ≡ end_time f
 
 -- whether rows follow something, after the heading of a track: as text they follow the heading
 abbrev pub is_headed : Form → Bool → Bool

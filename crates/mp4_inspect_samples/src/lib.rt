@@ -2,18 +2,22 @@
 //! first `moov` and the headers of each `moof`; media data are skipped.
 #![tactic(auto)]
 
+mod choice;
 mod fault;
 mod fragments;
 mod heading;
 mod limit;
+mod lists;
 mod reached;
 mod row;
 mod row_text;
 mod rows;
 mod samples_of_file;
 mod tables;
-mod track_stop;
+mod track;
+mod tracks;
 
+pub use choice::Choice;
 pub use fault::{Fault, TrackFault, TrackName};
 pub use row_text::Form;
-pub use samples_of_file::{Choice, write_samples};
+pub use samples_of_file::write_samples;

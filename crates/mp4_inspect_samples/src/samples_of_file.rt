@@ -1,311 +1,143 @@
 //! Writing the samples of a file.
 
-ghost use Rattle.std.specs.Prelude.{◌≡◌, IfOk};
-ghost use Rattle.mp4_inspect_samples.specs.Tracks.{WritesTrackFragment};
+ghost use Rattle.std.specs.Prelude.{◌≡◌, ◌++◌, map, IfOk, IfSome, OnOk, Some};
+ghost use Rattle.mp4_frame.specs.FourCC.{four_cc_of};
+ghost use Rattle.mp4_frame.specs.declared.codes.TheConstants as names;
+ghost use Rattle.mp4_movie.specs.Levels.{after_of, first_in};
+ghost use Rattle.mp4_walk.specs.FileBoxes.{boxes_of};
+ghost use Rattle.mp4_inspect_samples.specs.Samples.{AreParts, WritesSamples, box_fault, is_movie, limit_of};
+ghost use Rattle.mp4_inspect_samples.specs.Samples.{movie_faults};
 
-use crate::fault::{Fault, TrackFault, TrackName};
-use crate::fragments::{Fragments, TrackTraf, fragments_of};
-use crate::heading::{Heading, write_end, write_front, write_heading};
-use crate::limit::{Limit, samples_in, unlisted_of};
-use crate::reached::Reached;
-use crate::row_text::Form;
-use crate::rows::{RowWriter, write_fragment_rows};
-use crate::tables::{tables_of, write_tables};
-use crate::track_stop::{TrackStop, keep};
-use mp4_frame::FourCC;
-use mp4_frame::codes::{MOOF, MOOV, TRAK};
+use crate::choice::Choice;
+use crate::fault::{Fault, TrackFault};
+use crate::fragments::fragments_of;
+use crate::heading::{write_end, write_front};
+use crate::limit::Limit;
+use crate::lists::keep;
+use crate::tracks::{Ahead, keep_absent, write_tracks};
+use mp4_frame::codes::{MOOF, MOOV};
 use mp4_io::{Failure, Output, or_read};
-use mp4_movie::{BoxError, Defaults, Movie, TrackFragment, TrackInfo, first_in};
-use mp4_walk::{Source, TreeBox};
+use mp4_movie::{BoxError, Defaults, MoofFragments, Movie, TrackInfo, first_in};
+use mp4_walk::{BoxWalk, Source, TreeBox};
 use std::alloc::{AllocError, Global};
-use std::collections::BTreeMap;
 use std::io::Write;
 
-/// The samples that are written, and their form.
-#[derive(Clone, Copy, Debug, PartialEq, Eq)]
-pub struct Choice {
-    /// The form of rows.
-    pub form: Form,
-    /// The track_ID of the track whose samples are written, or `None` for all tracks.
-    pub track: Option<u32>,
-    /// Asks for all samples, past the end of the file too.
-    pub beyond: bool,
-}
-
-/// The tracks of a file that are still to be written.
+/// The parts of a movie that its samples need.
 #[derive(Drop)]
-struct Ahead {
-    /// The fragments of the tracks that were not met.
-    fragments: Fragments,
-    /// The track_IDs of the tracks that were met.
-    known: BTreeMap<u32, ()>,
+pub struct MovieParts {
+    /// The fault of each `trex` that can't be read.
+    pub errors: Vec<BoxError>,
+    /// The fragments of each `moof`.
+    pub moofs: Vec<MoofFragments>,
+    /// The headers of the tracks.
+    pub infos: Vec<TrackInfo>,
 }
 
-impl Ahead {
-    /// Stores that a track with the track_ID `track` was met. Returns whether it is the first.
-    fn meet(&mut self, track: u32) -> Result<bool, AllocError> {
-        let is_first = !self.known.contains_key(&track);
-        self.known.insert(track, ())?;
-        Ok(is_first)
-    }
-}
-
-/// Writes the samples of a fragment, up to the first that isn't listed. `reached` has the rows of the track before it.
-fn write_fragment<W: Write>(
-    fragment: &TrackFragment,
-    track: Option<u32>,
-    limit: Limit,
-    reached: Reached,
-    writer: &mut RowWriter,
-    output: &mut Output<W>,
-) -> Result<Reached, TrackStop>
-    ensures writes { IfOk result
-        (WritesTrackFragment fragment.now limit writer.old.form track reached writer.old.follows writer.new.follows
-        (W.contents output.old.inner) (W.contents output.new.inner)) }
-    ensures form { writer.new.form ≡ writer.old.form }
+/// Returns the parts of a movie that its samples need.
+fn parts_of<S: Source>(alloc: Global, movie: &mut Movie<S>) -> Result<MovieParts, Failure>
+    ensures value { IfSome movie.old.bytes (λ file. IfOk result (AreParts file)) }
+    ensures kept { movie.new ≡ movie.old }
 {
-    let end = write_fragment_rows(
-        &fragment.fragment(reached.time),
-        track,
-        limit,
-        reached.count,
-        reached.empty,
-        writer,
-        output,
-    )?;
-    match end.fault {
-        Some(fault) => Err(TrackStop::Faulty(Fault::Fragment(fragment.moof, fault))),
-        None => {
-            let counted = reached.count.saturating_add(samples_in(&fragment.runs));
-            Ok(Reached {
-                count: end.count,
-                time: end.time,
-                empty: end.empty,
-                unlisted: unlisted_of(limit, end.count, counted, end.unlisted),
-            })
-        }
-    }
-}
-
-/// Writes the samples of the fragments of a track, up to the first that has a fault or isn't listed. Counts those after
-/// it.
-fn write_fragments<W: Write>(
-    trafs: Vec<TrackTraf>,
-    track: Option<u32>,
-    limit: Limit,
-    reached: Reached,
-    writer: &mut RowWriter,
-    output: &mut Output<W>,
-) -> Result<Reached, TrackStop> {
-    let mut reached = reached;
-    for traf in trafs {
-        let TrackTraf { samples, fragment } = traf;
-        if let Some(unlisted) = reached.unlisted {
-            reached.unlisted = Some(unlisted.and_more(samples));
-            continue;
-        }
-        match fragment {
-            Ok(fragment) => {
-                reached = write_fragment(&fragment, track, limit, reached, writer, output)?;
-            }
-            Err(error) => return Err(TrackStop::Faulty(Fault::Box(error))),
-        }
-    }
-    Ok(reached)
-}
-
-/// Writes the samples of track `number`, up to the first that isn't listed: those of its tables, and then those of its
-/// fragments `trafs`.
-fn write_track<S: Source, W: Write>(
-    alloc: Global,
-    movie: &mut Movie<S>,
-    number: usize,
-    heading: Heading,
-    trafs: Vec<TrackTraf>,
-    limit: Limit,
-    writer: &mut RowWriter,
-    output: &mut Output<W>,
-) -> Result<(), TrackStop> {
-    let reached = match tables_of(alloc, movie, number)? {
-        Some(tables) => write_tables(&tables, heading, limit, writer, output)?,
-        None => {
-            write_heading(heading, writer, output)?;
-            Reached::default()
-        }
-    };
-    let reached = write_fragments(trafs, heading.name.id(), limit, reached, writer, output)?;
-    match reached.unlisted {
-        Some(unlisted) => Err(TrackStop::Faulty(Fault::Unlisted(unlisted))),
-        None => Ok(()),
-    }
-}
-
-/// Stores a fault.
-fn keep_one(
-    fault: Fault,
-    track: Option<TrackName>,
-    faults: &mut Vec<TrackFault>,
-) -> Result<(), Failure> {
-    keep(faults, TrackFault { track, fault })?;
-    Ok(())
-}
-
-/// Stores the fault of each `trex` of `movie` that has one. The fragments of its track have no defaults then.
-fn keep_trex_faults<S: Source>(
-    alloc: Global,
-    movie: &mut Movie<S>,
-    faults: &mut Vec<TrackFault>,
-) -> Result<(), Failure> {
     let Defaults {
         by_track: _,
         faults: errors,
     } = or_read(movie.defaults(alloc))?;
+    let moofs = or_read(movie.fragments(alloc))?;
+    let infos = or_read(movie.tracks(alloc))?;
+    Ok(MovieParts {
+        errors,
+        moofs,
+        infos,
+    })
+}
+
+/// Stores the fault of each `trex` that has one. The fragments of its track have no defaults then.
+fn keep_errors(errors: Vec<BoxError>, faults: &mut Vec<TrackFault>) -> Result<(), AllocError>
+    ensures { OnOk result (faults.new.items ≡ faults.old.items ++ map box_fault errors.items) }
+{
     for error in errors {
-        keep_one(Fault::Box(error), None, faults)?;
+        let fault = TrackFault {
+            track: None,
+            fault: Fault::Box(error),
+        };
+        keep(faults, fault)?;
     }
     Ok(())
 }
 
-/// Stores the fault that there is no track with the track_ID `track`.
-fn keep_missing(track: u32, faults: &mut Vec<TrackFault>) -> Result<(), Failure> {
-    let fault = Fault::Box(BoxError::Missing {
-        code: FourCC::from(TRAK),
-    });
-    keep_one(fault, Some(TrackName::Id(track)), faults)
-}
-
-/// Returns the fragments of a track with the track_ID `track` that is met, or `None` if its samples are not written. If
-/// several tracks have this track_ID, the first has the fragments, and it is the one that can be chosen.
-fn enter_id(
-    alloc: Global,
-    track: u32,
-    choice: Choice,
-    ahead: &mut Ahead,
-) -> Result<Option<Vec<TrackTraf>>, Failure> {
-    let is_first = ahead.meet(track)?;
-    let trafs = match ahead.fragments.remove(&track) {
-        Some(trafs) => trafs,
-        None => Vec::new(alloc),
-    };
-    match choice.track {
-        Some(one) if one != track || !is_first => Ok(None),
-        _ => Ok(Some(trafs)),
-    }
-}
-
-/// Returns the name and the fragments of a track that is met, or `None` if its samples are not written. If its track_ID
-/// can't be read, it has no fragments, and the fault is stored.
-fn enter_name(
-    alloc: Global,
-    position: u64,
-    track_id: Result<u32, BoxError>,
-    choice: Choice,
-    ahead: &mut Ahead,
-    faults: &mut Vec<TrackFault>,
-) -> Result<Option<(TrackName, Vec<TrackTraf>)>, Failure> {
-    match track_id {
-        Ok(track) => match enter_id(alloc, track, choice, ahead)? {
-            Some(trafs) => Ok(Some((TrackName::Id(track), trafs))),
-            None => Ok(None),
-        },
-        Err(error) => {
-            let name = TrackName::At(position);
-            keep_one(Fault::Box(error), Some(name), faults)?;
-            if choice.track.is_some() {
-                return Ok(None);
-            }
-            Ok(Some((name, Vec::new(alloc))))
-        }
-    }
-}
-
-/// Writes the samples of a track, if they are chosen, and stores its fault.
-fn enter_track<S: Source, W: Write>(
-    alloc: Global,
-    movie: &mut Movie<S>,
-    info: TrackInfo,
-    choice: Choice,
-    limit: Limit,
-    ahead: &mut Ahead,
-    writer: &mut RowWriter,
-    output: &mut Output<W>,
-    faults: &mut Vec<TrackFault>,
-) -> Result<(), Failure> {
-    let TrackInfo {
-        number,
-        position,
-        track_id,
-        timescale,
-        handler,
-    } = info;
-    let Some((name, trafs)) = enter_name(alloc, position, track_id, choice, ahead, faults)? else {
-        return Ok(());
-    };
-    let heading = Heading {
-        name,
-        handler: handler.ok(),
-        timescale: timescale.ok(),
-    };
-    match write_track(alloc, movie, number, heading, trafs, limit, writer, output) {
-        Ok(()) => Ok(()),
-        Err(TrackStop::Failed(failure)) => Err(failure),
-        Err(TrackStop::Faulty(fault)) => keep_one(fault, Some(name), faults),
-    }
-}
-
-/// Stores the faults of fragments whose track is not in the `moov`, and of a chosen track that the file doesn't have.
-fn keep_unknown(
-    ahead: &Ahead,
-    choice: Choice,
-    faults: &mut Vec<TrackFault>,
-) -> Result<(), Failure> {
-    for (track, _) in &ahead.fragments {
-        if choice.track.is_none() || choice.track == Some(*track) {
-            keep_missing(*track, faults)?;
-        }
-    }
-    match choice.track {
-        Some(track) if !ahead.known.contains_key(&track) && !ahead.fragments.contains_key(&track) =>
-            { keep_missing(track, faults) }
-        _ => Ok(()),
+/// Returns the boxes after the header of the first `moov` in `boxes`, or none if there is no `moov`.
+fn movie_in(boxes: &[TreeBox]) -> &[TreeBox]
+    ensures { result.now ≡ after_of (first_in 0 (four_cc_of names.MOOV) boxes.now) }
+{
+    match first_in(boxes, 0, MOOV) {
+        Some(movie) => movie.after,
+        None => &[],
     }
 }
 
 /// Returns whether a file with the boxes `boxes` has a `moov` or a `moof`.
-fn is_movie(boxes: &[TreeBox]) -> bool {
+fn is_movie(boxes: &[TreeBox]) -> bool
+    ensures { result ≡ is_movie boxes.now }
+{
     first_in(boxes, 0, MOOV).is_some() || first_in(boxes, 0, MOOF).is_some()
 }
 
-/// Writes the samples of the tracks `tracks`, one after the other.
-fn write_tracks<S: Source, W: Write>(
+/// Stores the fault of a file with the boxes `boxes` that has no `moov` and no `moof`.
+fn keep_no_movie(boxes: &[TreeBox], faults: &mut Vec<TrackFault>) -> Result<(), AllocError>
+    ensures { OnOk result (faults.new.items ≡ faults.old.items ++ movie_faults boxes.now) }
+{
+    if is_movie(boxes) {
+        return Ok(());
+    }
+    let fault = TrackFault {
+        track: None,
+        fault: Fault::NoMovie,
+    };
+    keep(faults, fault)
+}
+
+/// Returns the rule by which the samples of the file that `walk` walks over are listed.
+fn limit_of<S: Source>(walk: &BoxWalk<S>, choice: Choice) -> Limit
+    ensures { IfSome walk.now.bytes (λ file. result ≡ limit_of choice file) }
+{
+    Limit {
+        length: walk.length(),
+        beyond: choice.beyond,
+    }
+}
+
+/// Writes the samples of a file with the boxes `boxes`, by the parts of its movie.
+fn write_parts<S: Source, W: Write>(
     alloc: Global,
-    movie: &mut Movie<S>,
-    tracks: Vec<TrackInfo>,
-    fragments: Fragments,
+    walk: &mut BoxWalk<S>,
+    boxes: &[TreeBox],
+    parts: MovieParts,
     choice: Choice,
-    limit: Limit,
     output: &mut Output<W>,
     faults: &mut Vec<TrackFault>,
-) -> Result<(), Failure> {
-    let mut ahead = Ahead {
-        fragments,
-        known: BTreeMap::new(alloc),
-    };
-    let mut writer = RowWriter::new(alloc, choice.form);
-    for info in tracks {
-        enter_track(
-            alloc,
-            movie,
-            info,
-            choice,
-            limit,
-            &mut ahead,
-            &mut writer,
-            output,
-            faults,
-        )?;
-    }
-    keep_unknown(&ahead, choice, faults)
+) -> Result<(), Failure>
+    ensures samples { IfSome walk.old.bytes
+        (λ file. boxes.now ≡ boxes_of file → AreParts file parts
+        → OnOk result (WritesSamples choice file (W.contents output.old.inner) (W.contents output.new.inner)
+        faults.old.items faults.new.items)) }
+{
+    let limit = limit_of(walk, choice);
+    let MovieParts {
+        errors,
+        moofs,
+        infos,
+    } = parts;
+    keep_errors(errors, faults)?;
+    let fragments = fragments_of(alloc, walk, boxes, moofs, faults)?;
+    write_front(choice.form, output)?;
+    let mut ahead = Ahead::new(alloc, fragments);
+    let movie = movie_in(boxes);
+    write_tracks(
+        alloc, walk, movie, infos, choice, limit, &mut ahead, output, faults,
+    )?;
+    keep_absent(&ahead, choice.track, faults)?;
+    keep_no_movie(boxes, faults)?;
+    write_end(choice.form, output)
 }
 
 /// Writes the samples of a file, a row for each. The rows of one track follow those of another. In a track the rows of
@@ -314,25 +146,17 @@ fn write_tracks<S: Source, W: Write>(
 /// file and for the runs of all fragments.
 pub fn write_samples<S: Source, W: Write>(
     alloc: Global,
-    mut source: S,
+    source: S,
     choice: Choice,
     output: &mut Output<W>,
     faults: &mut Vec<TrackFault>,
-) -> Result<(), Failure> {
-    let limit = Limit {
-        length: or_read(source.length())?,
-        beyond: choice.beyond,
-    };
+) -> Result<(), Failure>
+    ensures samples { IfSome (S.all source)
+        (λ file. OnOk result (WritesSamples choice file (W.contents output.old.inner) (W.contents output.new.inner)
+        faults.old.items faults.new.items)) }
+{
     let mut movie = or_read(Movie::open(alloc, source))?;
-    keep_trex_faults(alloc, &mut movie, faults)?;
-    let fragments = fragments_of(alloc, &mut movie, faults)?;
-    let tracks = or_read(movie.tracks(alloc))?;
-    write_front(choice.form, output)?;
-    write_tracks(
-        alloc, &mut movie, tracks, fragments, choice, limit, output, faults,
-    )?;
-    if !is_movie(movie.boxes()) {
-        keep_one(Fault::NoMovie, None, faults)?;
-    }
-    write_end(choice.form, output)
+    let parts = parts_of(alloc, &mut movie)?;
+    let (mut walk, boxes) = movie.into_parts();
+    write_parts(alloc, &mut walk, &boxes, parts, choice, output, faults)
 }

@@ -1,11 +1,11 @@
-use Rattle.std.proofs.Common.{◌≡◌, ℕ, ◌+◌, true, refl, subst, sym, ◌∙◌, arith, rules}
+use Rattle.std.proofs.Common.{◌≡◌, ℕ, ◌+◌, true, length, ap, refl, subst, sym, ◌∙◌, arith, rules}
 use Rattle.mp4_inspect_samples.proofs.RowLists.{writes_none, writes_next, begins_next, begins_all, on_err}
 use Rattle.mp4_inspect_samples.proofs.rows.write_fragment_rows.Goals as goal
 use Rattle.mp4_inspect_samples.specs.Listed.{is_listed}
 use Rattle.mp4_inspect_samples.specs.Rows.{WritesRows}
 use Rattle.mp4_samples.proofs.Fragments.{no_runs_samples}
 use Rattle.mp4_samples.specs.FragmentGives.{begins, number_of, sample_total}
-use Rattle.mp4_samples.specs.Fragments.{IsFragmentSample, Faults}
+use Rattle.mp4_samples.specs.Fragments.{IsFragmentSample, Faults, sample_time}
 use Rattle.mp4_samples.specs.declared.fragment.Fragment.{Fragment}
 
 pub loop-init : goal.loop-init
@@ -91,6 +91,7 @@ returns-in-Some-Err-clause-rows g c =
             c.loop.invariant.fragment gives.1,
       );
       rows = c.loop.invariant.written;
+      time = λ u e. absurd cc;
     }
 
 pub returns-then-not-is_listed-clause-rows : goal.returns-then-not-is_listed-clause-rows
@@ -105,10 +106,13 @@ returns-then-not-is_listed-clause-rows g c =
         sym c.is_listed.ensures ∙ c.if-not-is_listed.true,
       );
       rows = c.loop.invariant.written;
+      time = λ u e. absurd cc;
     }
 
 pub returns-in-None-clause-rows : goal.returns-in-None-clause-rows
 returns-in-None-clause-rows g c =
+    let f = c.args.fragment.now in
+    let t = c.next.new.self in
     let gives = c.in-None.ensures.steps in
     let last = gives.0 c.loop.invariant.on in
     record {
@@ -116,6 +120,12 @@ returns-in-None-clause-rows g c =
       count = c.loop.invariant.count;
       ends = subst (λ (f : Fragment). number_of c.loop.samples ≡ sample_total f) c.loop.invariant.fragment last.0;
       rows = c.loop.invariant.written;
+      time = λ u e.
+          c.time-in-None.ensures
+          ∙ ap (λ (g : Fragment). sample_time g t.run t.index) (gives.2 ∙ c.loop.invariant.fragment)
+          ∙ ap (λ (r : ℕ). sample_time f r t.index)
+          (last.1 ∙ ap (λ (g : Fragment). length g.runs.now) c.loop.invariant.fragment)
+          ∙ ap (λ (j : ℕ). sample_time f (length f.runs.now) j) last.2;
     }
 
 pub returns-clause-begins : goal.returns-clause-begins
