@@ -7,7 +7,10 @@ pub mod Plans
 pub mod Beginnings
 pub mod Windows
 pub mod Pairs
+pub mod PathSearch
 pub mod Places
+pub mod SizeFields
+pub mod Splicing
 pub mod Steps
 pub mod Grouping
 pub mod BothFiles

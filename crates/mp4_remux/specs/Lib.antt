@@ -18,3 +18,7 @@ pub mod Groups
 pub mod Whole
 pub mod Carried
 pub mod Written
+pub mod Splices
+pub mod Spots
+pub mod Edits
+pub mod Shortcuts

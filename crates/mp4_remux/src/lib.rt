@@ -1,6 +1,7 @@
 //! Rewrites the container of a file, and keeps every sample of every track.
 #![tactic(auto)]
 
+pub mod edits;
 mod fragmented;
 mod groups;
 mod keeps;

@@ -1,11 +1,15 @@
 //! The reasons why a file is not rewritten.
 
 ghost use Rattle.std.specs.Prelude.{◌≡◌};
-ghost use Rattle.mp4_remux.specs.declared.refusal.Stop.TheVariants.{Failed};
+ghost use Rattle.mp4_io.specs.declared.failure.Failure.TheVariants.{Memory};
+ghost use Rattle.mp4_remux.specs.declared.refusal.Refusal.TheVariants.{Edit};
+ghost use Rattle.mp4_remux.specs.declared.refusal.Stop.TheVariants.{Failed, Refused};
 
+use crate::edits::EditRefusal;
 use mp4_io::{Failure, read_failure};
 use mp4_movie::{BoxError, MovieError};
 use mp4_samples::Disagreement;
+use std::alloc::AllocError;
 use std::io;
 
 /// A track as refusals name it.
@@ -66,6 +70,9 @@ pub enum Refusal {
         /// The number of the sample, counted from 1.
         number: u64,
     },
+    /// An edit can't be made.
+    #[error("{0}")]
+    Edit(EditRefusal),
 }
 
 /// The reason why a new file is not written, or not to its end.
@@ -87,10 +94,25 @@ impl From<Failure> for Stop {
     }
 }
 
+impl From<AllocError> for Stop {
+    ghost from_gives = { λ _ stop. stop ≡ Failed Memory };
+
+    fn from(_error: AllocError) -> Stop {
+        Stop::Failed(Failure::Memory)
+    }
+}
+
 impl From<io::Error> for Stop {
     fn from(error: io::Error) -> Stop {
         Stop::Failed(read_failure(&error))
     }
+}
+
+/// Returns the refusal of an edit as a reason to write nothing.
+pub(crate) fn refused(refusal: EditRefusal) -> Stop
+    ensures { result ≡ Refused (Edit refusal) }
+{
+    Stop::Refused(Refusal::Edit(refusal))
 }
 
 /// Returns why the boxes of `track` can't be read.

@@ -6,3 +6,6 @@ pub mod Offsets
 pub mod Movie
 pub mod Written
 pub mod Laws
+pub mod EditedMovie
+pub mod EditedFile
+pub mod WrittenEdits

@@ -8,6 +8,7 @@ use Rattle.mp4_frame.specs.FourCC.{four_cc_of}
 use Rattle.mp4_frame.specs.declared.codes.TheConstants as codes
 use Rattle.mp4_walk.specs.Paths.{is_code}
 use Rattle.mp4_walk.specs.declared.tree_box.TreeBox.{TreeBox}
+use Rattle.mp4_remux.specs.Splices.{box_end}
 use Rattle.mp4_remux_program.specs.Moved.{moved}
 use Rattle.mp4_remux_program.specs.declared.movement.Move.{Move}
 use Rattle.mp4_remux_program.specs.declared.offsets.OffsetTable.{OffsetTable}
@@ -41,9 +42,6 @@ auxiliary_table B content end =
 
 abbrev pub content_begin : TreeBox → ℕ
 content_begin x = at_most (x.position + x.header_length)
-
-abbrev pub box_end : TreeBox → ℕ
-box_end x = at_most (x.position + x.length)
 
 -- the table of a box, if it has one
 abbrev pub table_in : List ℕ → TreeBox → Option OffsetTable

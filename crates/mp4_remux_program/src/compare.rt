@@ -1,47 +1,34 @@
 //! Whether a movie box is as after the move.
 
-ghost use Rattle.std.specs.Prelude.{◌≡◌, IsTrue, IfOk, IfSome, length};
+ghost use Rattle.std.specs.Prelude.{◌≡◌, ◌≢◌, IsTrue, IfOk, IfSome};
+ghost use Rattle.mp4_frame.specs.Bytes.{number};
 ghost use Rattle.mp4_remux_program.specs.Movie.{AreBoxesAfter, AreListed, AreMoved, IsBoxAfter, IsContentAfter};
 ghost use Rattle.mp4_remux_program.specs.Movie.{IsMovieAfter, IsTableAfter, between, is_same_code, is_unread};
 ghost use Rattle.mp4_remux_program.specs.Movie.{is_widened, own_begin, own_bytes, own_end};
-ghost use Rattle.mp4_remux_program.specs.Offsets.{offset_after};
 ghost use Rattle.mp4_walk.specs.FileBoxes.{boxes_of};
 
 use crate::movement::Move;
-use crate::offsets::{OffsetTable, has_offsets, offset_after, table_in};
+use crate::offsets::{MovedOffsets, OffsetTable, has_offsets, table_in};
 use crate::refusal::Stop;
+use crate::shift::Shift;
 use mp4_frame::{FourCC, codes, u32_at, u64_at};
 use mp4_movie::Movie;
 use mp4_walk::{BoxState, Source, TreeBox};
 use std::alloc::Global;
 
-/// Returns whether `after` is the offset after the move `shift` in place of `before`.
-fn is_moved(
-    shift: Move,
-    length: u64,
-    were: &[TreeBox],
-    are: &[TreeBox],
-    before: u64,
-    after: u64,
-) -> bool
-    ensures { IsTrue result → offset_after shift length were.now are.now before ≡ after }
+/// Returns whether `after` is the offset that `shift` puts in place of `before`.
+fn is_moved<F: Shift>(shift: &F, before: u64, after: u64) -> bool
+    ensures { IsTrue result → F.after shift.now before ≡ after }
 {
-    match offset_after(shift, length, were, are, before) {
+    match shift.shifted(before) {
         Some(offset) => offset == after,
         None => false,
     }
 }
 
-/// Returns whether `new` has the offsets of 32 bits that the move puts in place of those of 32 bits in `old`.
-fn are_short_moved(
-    old: &[u8],
-    new: &[u8],
-    shift: Move,
-    length: u64,
-    were: &[TreeBox],
-    are: &[TreeBox],
-) -> bool
-    ensures { IsTrue result → AreMoved 4 4 (offset_after shift length were.now are.now) old.now new.now }
+/// Returns whether `new` has the offsets of 32 bits that `shift` puts in place of those of 32 bits in `old`.
+fn are_short_moved<F: Shift>(old: &[u8], new: &[u8], shift: &F) -> bool
+    ensures { IsTrue result → AreMoved 4 4 (F.after shift.now) old.now new.now }
 {
     if new.len() != old.len() {
         return false;
@@ -50,9 +37,6 @@ fn are_short_moved(
         let at = 4 * index;
         if !is_moved(
             shift,
-            length,
-            were,
-            are,
             u64::from(u32_at(old, at)),
             u64::from(u32_at(new, at)),
         ) {
@@ -62,16 +46,9 @@ fn are_short_moved(
     true
 }
 
-/// Returns whether `new` has the offsets of 64 bits that the move puts in place of those of 32 bits in `old`.
-fn are_widened(
-    old: &[u8],
-    new: &[u8],
-    shift: Move,
-    length: u64,
-    were: &[TreeBox],
-    are: &[TreeBox],
-) -> bool
-    ensures { IsTrue result → AreMoved 4 8 (offset_after shift length were.now are.now) old.now new.now }
+/// Returns whether `new` has the offsets of 64 bits that `shift` puts in place of those of 32 bits in `old`.
+fn are_widened<F: Shift>(old: &[u8], new: &[u8], shift: &F) -> bool
+    ensures { IsTrue result → AreMoved 4 8 (F.after shift.now) old.now new.now }
 {
     if new.len() % 2 != 0 || new.len() / 2 != old.len() {
         return false;
@@ -79,9 +56,6 @@ fn are_widened(
     for index in 0..old.len() / 4 {
         if !is_moved(
             shift,
-            length,
-            were,
-            are,
             u64::from(u32_at(old, 4 * index)),
             u64_at(new, 8 * index),
         ) {
@@ -91,50 +65,33 @@ fn are_widened(
     true
 }
 
-/// Returns whether `new` has the offsets of 64 bits that the move puts in place of those of 64 bits in `old`.
-fn are_long_moved(
-    old: &[u8],
-    new: &[u8],
-    shift: Move,
-    length: u64,
-    were: &[TreeBox],
-    are: &[TreeBox],
-) -> bool
-    ensures { IsTrue result → AreMoved 8 8 (offset_after shift length were.now are.now) old.now new.now }
+/// Returns whether `new` has the offsets of 64 bits that `shift` puts in place of those of 64 bits in `old`.
+fn are_long_moved<F: Shift>(old: &[u8], new: &[u8], shift: &F) -> bool
+    ensures { IsTrue result → AreMoved 8 8 (F.after shift.now) old.now new.now }
 {
     if new.len() != old.len() {
         return false;
     }
     for index in 0..old.len() / 8 {
         let at = 8 * index;
-        if !is_moved(shift, length, were, are, u64_at(old, at), u64_at(new, at)) {
+        if !is_moved(shift, u64_at(old, at), u64_at(new, at)) {
             return false;
         }
     }
     true
 }
 
-/// Returns whether `new` has the offsets that the move puts in place of those in `old`. `was_wide` says that those of
+/// Returns whether `new` has the offsets that `shift` puts in place of those in `old`. `was_wide` says that those of
 /// `old` have 64 bits, and `is_wide` that those of `new` have.
-fn are_listed(
-    was_wide: bool,
-    is_wide: bool,
-    old: &[u8],
-    new: &[u8],
-    shift: Move,
-    length: u64,
-    were: &[TreeBox],
-    are: &[TreeBox],
-) -> bool
-    ensures { IsTrue result
-        → AreListed was_wide is_wide (offset_after shift length were.now are.now) old.now new.now }
+fn are_listed<F: Shift>(was_wide: bool, is_wide: bool, old: &[u8], new: &[u8], shift: &F) -> bool
+    ensures { IsTrue result → AreListed was_wide is_wide (F.after shift.now) old.now new.now }
 {
     if was_wide {
-        is_wide && are_long_moved(old, new, shift, length, were, are)
+        is_wide && are_long_moved(old, new, shift)
     } else if is_wide {
-        are_widened(old, new, shift, length, were, are)
+        are_widened(old, new, shift)
     } else {
-        are_short_moved(old, new, shift, length, were, are)
+        are_short_moved(old, new, shift)
     }
 }
 
@@ -235,19 +192,16 @@ fn are_own_same(old: &[u8], new: &[u8], old_box: &TreeBox, new_box: &TreeBox) ->
     are_same(old, before.begin, before.end, new, after.begin, after.end)
 }
 
-/// Returns whether `other` of `new` has the offsets that the move puts in place of those of `table` in `old`.
-fn is_listed_after(
+/// Returns whether `other` of `new` has the offsets that `shift` puts in place of those of `table` in `old`.
+fn is_listed_after<F: Shift>(
     old: &[u8],
     new: &[u8],
     table: OffsetTable,
     other: OffsetTable,
-    were: &[TreeBox],
-    are: &[TreeBox],
-    shift: Move,
+    shift: &F,
 ) -> bool
-    ensures { IsTrue result → AreListed table.is_wide other.is_wide
-        (offset_after shift (length new.now) were.now are.now) (between old.now table.begin table.end)
-        (between new.now other.begin other.end) }
+    ensures { IsTrue result → AreListed table.is_wide other.is_wide (F.after shift.now)
+        (between old.now table.begin table.end) (between new.now other.begin other.end) }
 {
     if table.begin > table.end || table.end > old.len() {
         return false;
@@ -261,26 +215,22 @@ fn is_listed_after(
         &old[table.begin..table.end],
         &new[other.begin..other.end],
         shift,
-        new.len() as u64,
-        were,
-        are,
     )
 }
 
-/// Returns whether `new_box` of `new` is `old_box` of `old` after the move. `table` and `other` are their tables.
-fn is_table_after(
+/// Returns whether `new_box` of `new` is `old_box` of `old`, except for its offsets, which follow `shift`. `table` and
+/// `other` are their tables.
+fn is_table_after<F: Shift>(
     old: &[u8],
     new: &[u8],
     old_box: &TreeBox,
     new_box: &TreeBox,
     table: OffsetTable,
     other: OffsetTable,
-    were: &[TreeBox],
-    are: &[TreeBox],
-    shift: Move,
+    shift: &F,
 ) -> bool
-    ensures { IsTrue result → IsTableAfter (offset_after shift (length new.now) were.now are.now) old.now new.now
-        old_box.now new_box.now table other }
+    ensures { IsTrue result
+        → IsTableAfter (F.after shift.now) old.now new.now old_box.now new_box.now table other }
 {
     let Some(before) = own_of(old_box) else {
         return false;
@@ -305,30 +255,26 @@ fn is_table_after(
             other.end as u64,
             after.end,
         )
-        && is_listed_after(old, new, table, other, were, are, shift)
+        && is_listed_after(old, new, table, other, shift)
 }
 
-/// Returns whether the content of `new_box` of `new` is that of `old_box` of `old` after the move. `table` and `other`
-/// are the tables of these boxes.
-fn is_content_after(
+/// Returns whether the content of `new_box` of `new` is that of `old_box` of `old`, except for its offsets, which
+/// follow `shift`. `table` and `other` are the tables of these boxes.
+fn is_content_after<F: Shift>(
     old: &[u8],
     new: &[u8],
     old_box: &TreeBox,
     new_box: &TreeBox,
     table: Option<OffsetTable>,
     other: Option<OffsetTable>,
-    were: &[TreeBox],
-    are: &[TreeBox],
-    shift: Move,
+    shift: &F,
 ) -> bool
-    ensures { IsTrue result → IsContentAfter (offset_after shift (length new.now) were.now are.now) old.now new.now
-        old_box.now new_box.now table other }
+    ensures { IsTrue result
+        → IsContentAfter (F.after shift.now) old.now new.now old_box.now new_box.now table other }
 {
     match table {
         Some(table) => match other {
-            Some(other) => is_table_after(
-                old, new, old_box, new_box, table, other, were, are, shift,
-            ),
+            Some(other) => is_table_after(old, new, old_box, new_box, table, other, shift),
             None => false,
         },
         None => !has_offsets(old_box)
@@ -337,18 +283,15 @@ fn is_content_after(
     }
 }
 
-/// Returns whether `new_box` of `new` is `old_box` of `old` after the move. `were` and `are` are all boxes.
-fn is_box_after(
+/// Returns whether `new_box` of `new` is `old_box` of `old`, except for its offsets, which follow `shift`.
+fn is_box_after<F: Shift>(
     old: &[u8],
     new: &[u8],
     old_box: &TreeBox,
     new_box: &TreeBox,
-    were: &[TreeBox],
-    are: &[TreeBox],
-    shift: Move,
+    shift: &F,
 ) -> bool
-    ensures { IsTrue result → IsBoxAfter (offset_after shift (length new.now) were.now are.now) old.now new.now
-        old_box.now new_box.now }
+    ensures { IsTrue result → IsBoxAfter (F.after shift.now) old.now new.now old_box.now new_box.now }
 {
     if new_box.depth != old_box.depth || new_box.header_length != old_box.header_length {
         return false;
@@ -363,26 +306,40 @@ fn is_box_after(
         new_box,
         table_in(old, old_box),
         table_in(new, new_box),
-        were,
-        are,
         shift,
     )
 }
 
-/// Returns whether the boxes `are` of `new` are the boxes `were` of `old` after the move, one by one.
-fn are_boxes_after(old: &[u8], new: &[u8], were: &[TreeBox], are: &[TreeBox], shift: Move) -> bool
-    ensures { IsTrue result → AreBoxesAfter (offset_after shift (length new.now) were.now are.now) old.now new.now
-        were.now are.now }
+/// Returns whether the boxes `are` of `new` are the boxes `were` of `old`, one by one, except for their offsets, which
+/// follow `shift`.
+pub fn are_boxes_after<F: Shift>(
+    old: &[u8],
+    new: &[u8],
+    were: &[TreeBox],
+    are: &[TreeBox],
+    shift: &F,
+) -> bool
+    ensures { IsTrue result → AreBoxesAfter (F.after shift.now) old.now new.now were.now are.now }
 {
     if were.len() != are.len() {
         return false;
     }
     for index in 0..were.len() {
-        if !is_box_after(old, new, &were[index], &are[index], were, are, shift) {
+        if !is_box_after(old, new, &were[index], &are[index], shift) {
             return false;
         }
     }
     true
+}
+
+/// Returns whether the movie box `bytes` has a size.
+pub fn is_sized(bytes: &[u8]) -> bool
+    ensures { IsTrue result → number bytes.now 0 4 ≢ 0 }
+{
+    if bytes.len() < 4 {
+        return false;
+    }
+    u32_at(bytes, 0) != 0
 }
 
 /// Returns whether the movie box `new` with the boxes `are` is `old` with the boxes `were` after the move.
@@ -390,13 +347,16 @@ fn is_after(old: &[u8], new: &[u8], were: &[TreeBox], are: &[TreeBox], shift: Mo
     ensures { IsTrue result → were.now ≡ boxes_of old.now → are.now ≡ boxes_of new.now
         → IsMovieAfter shift old.now new.now }
 {
-    if new.len() < 4 {
+    if !is_sized(new) {
         return false;
     }
-    if u32_at(new, 0) == 0 {
-        return false;
-    }
-    are_boxes_after(old, new, were, are, shift)
+    let moved = MovedOffsets {
+        shift,
+        new,
+        were,
+        are,
+    };
+    are_boxes_after(old, new, were, are, &moved)
 }
 
 /// Returns the boxes of `source`.

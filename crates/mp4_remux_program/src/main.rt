@@ -1,9 +1,14 @@
 //! The program `mp4remux` rewrites the container of MP4 files, and keeps every sample of every track. It writes a file
-//! with its `moov` before its media data.
+//! with its `moov` before its media data, or with edits of its boxes.
 #![tactic(auto)]
 
+mod argument;
+mod around;
+mod changes;
 mod compare;
 mod destination;
+mod edited;
+mod editing;
 mod laws;
 mod movement;
 mod obstacle;
@@ -16,14 +21,19 @@ mod rebuild;
 mod refusal;
 mod request;
 mod rewriting;
+mod shift;
+mod task;
 mod write;
+mod write_edit;
 
+use changes::{NoChanges, changes_of};
 use mp4_command::{NOT_UTF_8, unreadable};
 use mp4_io::Failure;
 use outcome::Outcome;
-use request::{Request, requested};
+use request::{Request, Work, requested};
 use rewriting::rewrite;
 use std::process::ExitCode;
+use task::Task;
 
 /// Prints to standard error that a name is not UTF-8, if one of the names of files is not. Returns whether it did.
 fn tell_names(rt: &HostRuntime, from: &str, to: &str) -> bool {
@@ -36,19 +46,31 @@ fn tell_names(rt: &HostRuntime, from: &str, to: &str) -> bool {
     }
 }
 
+/// Returns what should be done, with the bytes of the files that the changes name.
+fn task_of(rt: &HostRuntime, work: Work) -> Result<Task, NoChanges> {
+    match work {
+        Work::FastStart => Ok(Task::FastStart),
+        Work::Edit(arguments) => Ok(Task::Edit(changes_of(rt, arguments)?)),
+    }
+}
+
 /// Writes what is requested, if the names are UTF-8.
-fn write_file(rt: &HostRuntime, request: &Request) -> Result<Outcome, Failure> {
-    let (from, to) = (request.from.as_str(), request.to.as_str());
-    if tell_names(rt, from, to) {
+fn write_file(rt: &HostRuntime, request: Request) -> Result<Outcome, Failure> {
+    let Request { work, from, to } = request;
+    if tell_names(rt, from.as_str(), to.as_str()) {
         return Ok(Outcome::Failed);
     }
-    rewrite(rt, from, to)
+    match task_of(rt, work) {
+        Ok(task) => rewrite(rt, task, from.as_str(), to.as_str()),
+        Err(NoChanges::Told(outcome)) => Ok(outcome),
+        Err(NoChanges::Memory) => Err(Failure::Memory),
+    }
 }
 
 /// Carries out the command line, and returns the exit status.
 fn run(rt: &HostRuntime) -> Result<u8, Failure> {
     match requested(rt)? {
-        Ok(request) => Ok(write_file(rt, &request)?.status()),
+        Ok(request) => Ok(write_file(rt, request)?.status()),
         Err(status) => Ok(status),
     }
 }

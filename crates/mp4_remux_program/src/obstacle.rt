@@ -60,7 +60,7 @@ fn flags_of<S: Source>(alloc: Global, tree: &mut BoxWalk<S>, found: &TreeBox) ->
 
 /// Returns whether a box with the code of `found`, outside the `moov`, has offsets that count from the front of the
 /// file.
-fn counts_from_front(found: &TreeBox) -> bool
+pub fn counts_from_front(found: &TreeBox) -> bool
     ensures { result ≡ counts_from_front found.now }
 {
     found.has_code(FourCC::from(codes::ILOC))
@@ -69,7 +69,7 @@ fn counts_from_front(found: &TreeBox) -> bool
 }
 
 /// Returns whether a box with the code of `found` leads to what is after it.
-fn leads_on(found: &TreeBox) -> bool
+pub fn leads_on(found: &TreeBox) -> bool
     ensures { result ≡ leads_on found.now }
 {
     found.has_code(FourCC::from(codes::SIDX)) || found.has_code(FourCC::from(codes::MOOF))
@@ -93,7 +93,7 @@ fn is_file_reference(code: u32) -> bool {
 }
 
 /// Returns the obstacle to any move that `found` is, if it is one.
-fn obstacle_in<S: Source>(
+pub fn obstacle_in<S: Source>(
     alloc: Global,
     tree: &mut BoxWalk<S>,
     found: &TreeBox,

@@ -5,6 +5,7 @@ ghost use Rattle.mp4_remux_program.specs.Offsets.{auxiliary_table, has_offsets, 
 ghost use Rattle.mp4_remux_program.specs.Offsets.{size_of, table_at, table_in};
 
 use crate::movement::Move;
+use crate::shift::Shift;
 use mp4_frame::{FourCC, codes, u8_at, u32_at};
 use mp4_walk::TreeBox;
 
@@ -116,9 +117,9 @@ fn place_by(old: &TreeBox, new: &TreeBox, offset: u64, place: u64) -> Option<u64
     }
 }
 
-/// Returns the place after the move of byte `offset` of a movie box with the boxes `old`, which are `new` afterwards.
-/// Returns `None` if the place is past 2^64 - 1, or if these are not as many boxes. Visits all boxes.
-fn place_in(old: &[TreeBox], new: &[TreeBox], offset: u64) -> Option<u64>
+/// Returns the place of byte `offset` of a movie box with the boxes `old`, which are `new` afterwards. Returns `None`
+/// if the place is past 2^64 - 1, or if these are not as many boxes. Visits all boxes.
+pub fn place_in(old: &[TreeBox], new: &[TreeBox], offset: u64) -> Option<u64>
     ensures { IfSome result (λ n. n ≡ place_in old.now new.now offset 0) }
 {
     if old.len() != new.len() {
@@ -136,7 +137,7 @@ fn place_in(old: &[TreeBox], new: &[TreeBox], offset: u64) -> Option<u64>
 
 /// Returns the offset after the move `shift` in place of `offset`, or `None` if it is past 2^64 - 1. The movie box has
 /// the boxes `old`, and then the boxes `new` and `length` bytes.
-pub fn offset_after(
+fn offset_after(
     shift: Move,
     length: u64,
     old: &[TreeBox],
@@ -152,5 +153,35 @@ pub fn offset_after(
         }
     } else {
         shift.moved(length, offset)
+    }
+}
+
+/// The change of the offsets of a movie box by its move.
+#[derive(Clone, Copy)]
+pub struct MovedOffsets<'a> {
+    /// The move.
+    pub shift: Move,
+    /// The movie box after the move.
+    pub new: &'a [u8],
+    /// The boxes of the movie box before the move.
+    pub were: &'a [TreeBox],
+    /// The boxes of the movie box after the move.
+    pub are: &'a [TreeBox],
+}
+
+impl<'a> Shift for MovedOffsets<'a> {
+    ghost use Rattle.std.specs.Prelude.{length};
+    ghost use Rattle.mp4_remux_program.specs.Offsets.{offset_after};
+
+    ghost after = { λ s. offset_after s.shift (length s.new.now) s.were.now s.are.now };
+
+    fn shifted(&self, offset: u64) -> Option<u64> {
+        offset_after(
+            self.shift,
+            self.new.len() as u64,
+            self.were,
+            self.are,
+            offset,
+        )
     }
 }

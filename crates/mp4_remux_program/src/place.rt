@@ -13,7 +13,7 @@ use mp4_walk::{BoxWalk, Source, TreeBox};
 use std::alloc::Global;
 
 /// Returns the first box of the top level with `code`.
-fn first_box(boxes: &[TreeBox], code: u32) -> Option<TreeBox>
+pub fn first_box(boxes: &[TreeBox], code: u32) -> Option<TreeBox>
     ensures { result ≡ first_box code boxes.now }
 {
     match first_in(boxes, 0, code) {
@@ -46,7 +46,7 @@ fn cut_in(boxes: &[TreeBox], length: u64) -> Result<Option<Move>, Stop>
 }
 
 /// Returns the position of the second `moov` of the top level, if there is one.
-fn second_movie(boxes: &[TreeBox]) -> Option<u64> {
+pub(crate) fn second_movie(boxes: &[TreeBox]) -> Option<u64> {
     let mut has_one = false;
     for found in boxes {
         if found.depth == 0 && found.has_code(FourCC::from(codes::MOOV)) {

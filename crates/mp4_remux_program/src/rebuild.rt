@@ -1,14 +1,19 @@
-//! A copy of a movie box as it is after the move. No clause describes how it is made, since `compare` checks it.
+//! A copy of a movie box as it is after its move or after edits. No clause describes how it is made, since `compare`
+//! and `edited` check it.
 
 ghost use Rattle.std.specs.Prelude.{IfOk};
+ghost use Rattle.mp4_remux_program.specs.EditedMovie.{IsMovieEdited};
 ghost use Rattle.mp4_remux_program.specs.Movie.{IsMovieAfter};
 
+use crate::around::Around;
 use crate::compare::{boxes_in, is_movie_after, is_unread, own_of};
+use crate::edited::{Span, TopEdits, is_movie_edited};
 use crate::movement::Move;
 use crate::obstacle::Obstacle;
 use crate::offsets::{OffsetTable, has_offsets, table_in};
 use crate::refusal::{Refusal, Stop};
 use mp4_frame::{FourCC, codes, u32_at, u64_at};
+use mp4_remux::edits::{Splice, has_byte, place};
 use mp4_walk::TreeBox;
 use std::alloc::{AllocError, Global};
 
@@ -21,19 +26,30 @@ struct Growth {
     total: u64,
 }
 
-/// A movie box, and what is known of it after the move.
+/// A movie box, and what is known of it after the change.
 #[derive(Clone, Copy)]
 struct Layout<'a> {
-    /// The movie box before the move.
+    /// The movie box before the change.
     movie: &'a [u8],
     /// Its boxes.
     boxes: &'a [TreeBox],
+    /// The edits in it, in order. Their positions are those in the movie box.
+    splices: &'a [Splice],
     /// The tables that grow, in order.
     growths: &'a [Growth],
-    /// The number of bytes after the move.
+    /// The number of bytes after the change.
     length: u64,
-    /// The move.
-    shift: Move,
+    /// The change outside the movie box.
+    around: Around<'a>,
+}
+
+/// A movie box after a change.
+#[derive(Drop)]
+struct NewMovie {
+    /// Its bytes.
+    pub bytes: Vec<u8>,
+    /// The ranges in it of the new bytes of each edit.
+    pub spans: Vec<Span>,
 }
 
 /// The largest number of steps that the offsets into a movie box may take. Each of them takes one step for each box.
@@ -56,21 +72,41 @@ fn growth_of_all(growths: &[Growth]) -> u64 {
     }
 }
 
-/// Returns the offset after the move in place of `offset`, or `None` if it is past 2^64 - 1.
+/// Returns the offset after the change in place of `offset`. Returns `None` if it leads to a byte that is replaced, or
+/// if it is past 2^64 - 1.
 fn offset_after(layout: &Layout<'_>, offset: u64) -> Option<u64> {
-    let shift = layout.shift;
-    if offset < shift.begin || shift.end <= offset {
-        return shift.moved(layout.length, offset);
+    let around = layout.around;
+    let begin = around.begin();
+    if offset < begin || around.end() <= offset {
+        return around.moved(layout.length, offset);
     }
-    let place = offset - shift.begin;
-    let count = layout
-        .boxes
-        .partition_point(|found| found.position <= place);
+    let at = offset - begin;
+    if has_byte(layout.splices, at) {
+        return None;
+    }
+    let count = layout.boxes.partition_point(|found| found.position <= at);
     let growth = match layout.boxes[..count].last() {
         Some(found) => growth_before(layout.growths, found.position),
         None => 0,
     };
-    shift.insert.checked_add(place)?.checked_add(growth)
+    let edited = place(layout.splices, at)?;
+    around.insert()?.checked_add(edited)?.checked_add(growth)
+}
+
+/// Returns the length after the change of `found`, a whole box.
+fn length_after(layout: &Layout<'_>, found: &TreeBox) -> Option<u64> {
+    let end = found.position.saturating_add(found.length);
+    let before = growth_before(layout.growths, found.position);
+    let within = growth_before(layout.growths, end).saturating_sub(before);
+    let mut length = found.length.checked_add(within)?;
+    let mut removed: u64 = 0;
+    for splice in layout.splices {
+        if found.depth < splice.depth && found.position < splice.begin && splice.end <= end {
+            length = length.checked_add(splice.added())?;
+            removed = removed.checked_add(splice.removed())?;
+        }
+    }
+    length.checked_sub(removed)
 }
 
 /// Returns the bytes of `movie` from `begin` to `end`. Refuses a box at `position` of the file that has fewer.
@@ -82,8 +118,8 @@ fn part(movie: &[u8], begin: u64, end: u64, position: u64) -> Result<&[u8], Stop
 }
 
 /// Returns the table of `found`, if it has offsets. Refuses offsets that can't be shifted, and a table that doesn't
-/// have all its offsets.
-fn checked_table(movie: &[u8], found: &TreeBox, shift: Move) -> Result<Option<OffsetTable>, Stop> {
+/// have all its offsets. The movie box begins at `begin`.
+fn checked_table(movie: &[u8], found: &TreeBox, begin: u64) -> Result<Option<OffsetTable>, Stop> {
     if !has_offsets(found) {
         return Ok(None);
     }
@@ -91,7 +127,7 @@ fn checked_table(movie: &[u8], found: &TreeBox, shift: Move) -> Result<Option<Of
         Some(table) => Ok(Some(table)),
         None => Err(Stop::Refused(Refusal::Obstacle(Obstacle::Offsets {
             code: found.code.unwrap_or(FourCC::from(codes::MOOV)),
-            position: shift.begin.saturating_add(found.position),
+            position: begin.saturating_add(found.position),
         }))),
     }
 }
@@ -102,16 +138,16 @@ fn bytes_of<'a>(layout: &Layout<'a>, table: OffsetTable) -> Result<&'a [u8], Sto
         layout.movie,
         table.begin as u64,
         table.end as u64,
-        layout.shift.begin,
+        layout.around.begin(),
     )
 }
 
-/// Returns whether an offset of 32 bits in `offsets` has no other one of 32 bits after the move.
+/// Returns whether an offset of 32 bits in `offsets` has one after the change that needs 64 bits.
 fn overflows(layout: &Layout<'_>, offsets: &[u8]) -> bool {
     for index in 0..offsets.len() / 4 {
         match offset_after(layout, u64::from(u32_at(offsets, 4 * index))) {
-            Some(offset) if offset <= u64::from(u32::MAX) => {}
-            _ => return true,
+            Some(offset) if offset > u64::from(u32::MAX) => return true,
+            _ => {}
         }
     }
     false
@@ -142,7 +178,10 @@ fn growths_of(alloc: Global, layout: &Layout<'_>, takes_all: bool) -> Result<Vec
     let mut growths = Vec::new(alloc);
     let mut total: u64 = 0;
     for found in layout.boxes {
-        if let Some(table) = checked_table(layout.movie, found, layout.shift)? {
+        if has_byte(layout.splices, found.position) {
+            continue;
+        }
+        if let Some(table) = checked_table(layout.movie, found, layout.around.begin())? {
             if is_grown(layout, found, table, takes_all)? {
                 total = total.saturating_add(table.end.saturating_sub(table.begin) as u64);
                 let position = found.position;
@@ -153,37 +192,34 @@ fn growths_of(alloc: Global, layout: &Layout<'_>, takes_all: bool) -> Result<Vec
     Ok(growths)
 }
 
-/// Returns the tables that have to grow. If none overflows as they are, none does. Else those grow that would overflow
-/// if all of them grew.
-fn needed_growths(
-    alloc: Global,
-    movie: &[u8],
-    boxes: &[TreeBox],
-    shift: Move,
-) -> Result<Vec<Growth>, Stop> {
-    let as_it_is = Layout {
-        movie,
-        boxes,
-        growths: &[],
-        length: movie.len() as u64,
-        shift,
-    };
-    let growths = growths_of(alloc, &as_it_is, false)?;
+/// Returns the number of bytes of `length` after `splices`.
+fn spliced_length(splices: &[Splice], length: u64) -> u64 {
+    let mut added = length;
+    let mut removed: u64 = 0;
+    for splice in splices {
+        added = added.saturating_add(splice.added());
+        removed = removed.saturating_add(splice.removed());
+    }
+    added.saturating_sub(removed)
+}
+
+/// Returns the tables of `plain`, in which none grows, that have to grow. If none overflows as they are, none does.
+/// Else those grow that would overflow if all of them grew.
+fn needed_growths(alloc: Global, plain: &Layout<'_>) -> Result<Vec<Growth>, Stop> {
+    let growths = growths_of(alloc, plain, false)?;
     if growths.is_empty() {
         return Ok(growths);
     }
-    let all = growths_of(alloc, &as_it_is, true)?;
+    let all = growths_of(alloc, plain, true)?;
     let largest = Layout {
-        movie,
-        boxes,
         growths: all.as_slice(),
-        length: (movie.len() as u64).saturating_add(growth_of_all(&all)),
-        shift,
+        length: plain.length.saturating_add(growth_of_all(&all)),
+        ..*plain
     };
     growths_of(alloc, &largest, false)
 }
 
-/// Adds the header of `found`, which has the code `code` and `length` bytes after the move.
+/// Adds the header of `found`, which has the code `code` and `length` bytes after the change.
 fn push_header(
     bytes: &mut Vec<u8>,
     found: &TreeBox,
@@ -239,7 +275,7 @@ fn offset_at(offsets: &[u8], index: usize, is_wide: bool) -> u64 {
     }
 }
 
-/// Adds the offsets after the move of a table, of 64 bits if they are `goes_wide`. Returns the number of those that
+/// Adds the offsets after the change of a table, of 64 bits if they are `goes_wide`. Returns the number of those that
 /// lead into the movie box, or `None` if one doesn't fit.
 fn push_offsets(
     bytes: &mut Vec<u8>,
@@ -256,7 +292,7 @@ fn push_offsets(
     let mut inside: u64 = 0;
     for index in 0..count {
         let before = offset_at(offsets, index, table.is_wide);
-        if layout.shift.begin <= before && before < layout.shift.end {
+        if layout.around.begin() <= before && before < layout.around.end() {
             inside = inside.saturating_add(1);
         }
         match offset_after(layout, before) {
@@ -280,7 +316,7 @@ fn push_table(
     table: OffsetTable,
     goes_wide: bool,
 ) -> Result<u64, Stop> {
-    let position = layout.shift.begin.saturating_add(found.position);
+    let position = layout.around.begin().saturating_add(found.position);
     let Some(own) = own_of(found) else {
         return Err(Stop::Refused(Refusal::Obstacle(Obstacle::NotWhole(position))));
     };
@@ -288,7 +324,11 @@ fn push_table(
     bytes.extend_from_slice(front)?;
     let Some(inside) = push_offsets(bytes, layout, table, goes_wide)? else {
         let code = found.code.unwrap_or(FourCC::from(codes::MOOV));
-        return Err(Stop::Refused(Refusal::Overflow { code, position }));
+        return Err(Stop::Refused(if layout.splices.is_empty() && layout.around.is_move() {
+            Refusal::Overflow { code, position }
+        } else {
+            Refusal::Lost { code, position }
+        }));
     };
     let rest = part(layout.movie, table.end as u64, own.end, position)?;
     bytes.extend_from_slice(rest)?;
@@ -297,7 +337,7 @@ fn push_table(
 
 /// Adds the own bytes of `found`, which has no table of offsets.
 fn push_own(bytes: &mut Vec<u8>, layout: &Layout<'_>, found: &TreeBox) -> Result<(), Stop> {
-    let position = layout.shift.begin.saturating_add(found.position);
+    let position = layout.around.begin().saturating_add(found.position);
     let Some(own) = own_of(found) else {
         return Err(Stop::Refused(Refusal::Obstacle(Obstacle::NotWhole(position))));
     };
@@ -305,10 +345,10 @@ fn push_own(bytes: &mut Vec<u8>, layout: &Layout<'_>, found: &TreeBox) -> Result
     Ok(())
 }
 
-/// Adds `found` without the boxes in it, as it is after the move. Returns the number of its offsets that lead into the
-/// movie box.
+/// Adds `found` without the boxes in it, as it is after the change. Returns the number of its offsets that lead into
+/// the movie box.
 fn push_box(bytes: &mut Vec<u8>, layout: &Layout<'_>, found: &TreeBox) -> Result<u64, Stop> {
-    let position = layout.shift.begin.saturating_add(found.position);
+    let position = layout.around.begin().saturating_add(found.position);
     let code = match found.code {
         Some(code) if !is_unread(found.state) => code,
         _ => {
@@ -319,18 +359,17 @@ fn push_box(bytes: &mut Vec<u8>, layout: &Layout<'_>, found: &TreeBox) -> Result
     if !found.is_whole() {
         return Err(Stop::Refused(Refusal::Obstacle(Obstacle::NotWhole(position))));
     }
-    let before = growth_before(layout.growths, found.position);
-    let end = found.position.saturating_add(found.length);
-    let within = growth_before(layout.growths, end).saturating_sub(before);
-    let length = found.length.saturating_add(within);
-    let is_grown = within > 0 && found.has_code(FourCC::from(codes::STCO));
+    let Some(length) = length_after(layout, found) else {
+        return Err(Stop::Refused(Refusal::Size { code, position }));
+    };
+    let is_grown = length > found.length && found.has_code(FourCC::from(codes::STCO));
     let code = if is_grown {
         FourCC::from(codes::CO64)
     } else {
         code
     };
     push_header(bytes, found, code, length, position)?;
-    match checked_table(layout.movie, found, layout.shift)? {
+    match checked_table(layout.movie, found, layout.around.begin())? {
         Some(table) => push_table(bytes, layout, found, table, table.is_wide || is_grown),
         None => {
             push_own(bytes, layout, found)?;
@@ -339,38 +378,102 @@ fn push_box(bytes: &mut Vec<u8>, layout: &Layout<'_>, found: &TreeBox) -> Result
     }
 }
 
-/// Returns a copy of the movie box `movie` as it is after the move. A `stco` with an offset that would not fit becomes
-/// a `co64`.
-fn rebuilt(alloc: Global, movie: &[u8], shift: Move) -> Result<Vec<u8>, Stop> {
+/// Adds the new bytes of the splices starting with number `next` that are before position `at`, and their ranges.
+/// Returns the number of the splice after them.
+fn push_splices(
+    made: &mut NewMovie,
+    splices: &[Splice],
+    next: usize,
+    at: u64,
+) -> Result<usize, AllocError> {
+    let mut index = next;
+    while index < splices.len() && splices[index].begin <= at {
+        let begin = made.bytes.len() as u64;
+        made.bytes.extend_from_slice(&splices[index].bytes)?;
+        made.spans.push(Span {
+            begin,
+            end: made.bytes.len() as u64,
+        })?;
+        index += 1;
+    }
+    Ok(index)
+}
+
+/// Returns a copy of the movie box of `layout` as it is after the change.
+fn copied(alloc: Global, layout: &Layout<'_>) -> Result<NewMovie, Stop> {
+    let mut made = NewMovie {
+        bytes: Vec::with_capacity(alloc, layout.length as usize)?,
+        spans: Vec::new(alloc),
+    };
+    let mut next: usize = 0;
+    let mut inside: u64 = 0;
+    for found in layout.boxes {
+        next = push_splices(&mut made, layout.splices, next, found.position)?;
+        if !has_byte(layout.splices, found.position) {
+            inside = inside.saturating_add(push_box(&mut made.bytes, layout, found)?);
+        }
+    }
+    push_splices(&mut made, layout.splices, next, u64::MAX)?;
+    if inside.saturating_mul(layout.boxes.len() as u64) > MOST_STEPS {
+        return Err(Stop::Refused(Refusal::Steps(layout.around.begin())));
+    }
+    Ok(made)
+}
+
+/// Returns a copy of the movie box `movie` as it is after `splices`, in order, and the change `around` it. A `stco`
+/// with an offset that would not fit becomes a `co64`.
+fn rebuilt(
+    alloc: Global,
+    movie: &[u8],
+    splices: &[Splice],
+    around: Around<'_>,
+) -> Result<NewMovie, Stop> {
     let boxes = boxes_in(alloc, movie)?;
-    let growths = needed_growths(alloc, movie, boxes.as_slice(), shift)?;
-    let length = (movie.len() as u64).saturating_add(growth_of_all(&growths));
-    let layout = Layout {
+    let plain = Layout {
         movie,
         boxes: boxes.as_slice(),
-        growths: growths.as_slice(),
-        length,
-        shift,
+        splices,
+        growths: &[],
+        length: spliced_length(splices, movie.len() as u64),
+        around,
     };
-    let mut bytes = Vec::with_capacity(alloc, length as usize)?;
-    let mut inside: u64 = 0;
-    for found in boxes.iter() {
-        inside = inside.saturating_add(push_box(&mut bytes, &layout, found)?);
-    }
-    if inside.saturating_mul(boxes.len() as u64) > MOST_STEPS {
-        return Err(Stop::Refused(Refusal::Steps(shift.begin)));
-    }
-    Ok(bytes)
+    let growths = needed_growths(alloc, &plain)?;
+    let layout = Layout {
+        growths: growths.as_slice(),
+        length: plain.length.saturating_add(growth_of_all(&growths)),
+        ..plain
+    };
+    copied(alloc, &layout)
 }
 
 /// Returns the movie box `movie` as it is after the move.
 pub fn moved_movie(alloc: Global, movie: &[u8], shift: Move) -> Result<Vec<u8>, Stop>
     ensures { IfOk result (λ made. IsMovieAfter shift movie.now made.items) }
 {
-    let made = rebuilt(alloc, movie, shift)?;
-    if is_movie_after(alloc, movie, made.as_slice(), shift)? {
-        Ok(made)
+    let made = rebuilt(alloc, movie, &[], Around::Moved(shift))?;
+    let NewMovie { bytes, spans: _ } = made;
+    if is_movie_after(alloc, movie, bytes.as_slice(), shift)? {
+        Ok(bytes)
     } else {
         Err(Stop::Refused(Refusal::Changed(shift.begin)))
+    }
+}
+
+/// Returns the movie box `movie` as it is after `splices` in it and the edits `top` around it.
+pub fn edited_movie(
+    alloc: Global,
+    movie: &[u8],
+    splices: &[Splice],
+    top: TopEdits<'_>,
+) -> Result<Vec<u8>, Stop>
+    ensures { IfOk result (λ made. IsMovieEdited top.entry.begin top.entry.end top.entry.splices.now splices.now
+        movie.now made.items) }
+{
+    let made = rebuilt(alloc, movie, splices, Around::Edited(top))?;
+    let NewMovie { bytes, spans } = made;
+    if is_movie_edited(alloc, movie, bytes.as_slice(), &spans, splices, top)? {
+        Ok(bytes)
+    } else {
+        Err(Stop::Refused(Refusal::Changed(top.begin)))
     }
 }

@@ -1,4 +1,4 @@
-//! The reasons why the movie box of a file is not moved.
+//! The reasons why a file is not rewritten.
 
 ghost use Rattle.std.specs.Prelude.{◌≡◌};
 ghost use Rattle.mp4_remux_program.specs.declared.refusal.Stop.TheVariants.{Failed, Refused};
@@ -10,7 +10,7 @@ use mp4_io::{Failure, read_failure};
 use std::alloc::AllocError;
 use std::io;
 
-/// The reason why the `moov` of a file is not moved. Positions are in bytes from the front of the file.
+/// The reason why a file is not rewritten. Positions are in bytes from the front of the file.
 #[derive(Debug, Drop, thiserror::Error)]
 pub enum Refusal {
     /// The file has no `moov`.
@@ -19,12 +19,20 @@ pub enum Refusal {
     /// The file has more than one `moov`.
     #[error("there is another moov at {0}")]
     TwoMovies(u64),
-    /// A box keeps the `moov` from being moved.
+    /// A box keeps others from being moved.
     #[error("{0}")]
     Obstacle(Obstacle),
     /// An offset would not fit.
     #[error("{code} at {position}: an offset would be too large")]
     Overflow {
+        /// The code of the box.
+        code: FourCC,
+        /// The position of the box.
+        position: u64,
+    },
+    /// An offset leads to a byte that is removed or replaced, or would not fit.
+    #[error("{code} at {position}: an offset leads to what is removed or replaced, or would be too large")]
+    Lost {
         /// The code of the box.
         code: FourCC,
         /// The position of the box.
@@ -41,10 +49,10 @@ pub enum Refusal {
     /// So many offsets lead into the `moov` that their comparison would take too long.
     #[error("moov at {0}: too many of its offsets lead into it")]
     Steps(u64),
-    /// More than the offsets of the `moov` would be changed, which only a fault of this program could cause.
-    #[error("moov at {0}: more than its offsets would be changed")]
+    /// More of the `moov` would be changed than has to be, which only a fault of this program could cause.
+    #[error("moov at {0}: more would be changed than has to be")]
     Changed(u64),
-    /// A track would not be the same, or its boxes can't be read.
+    /// A track would not be the same, or its boxes can't be read, or an edit can't be made.
     #[error("{0}")]
     Media(mp4_remux::Refusal),
 }
@@ -81,6 +89,15 @@ impl From<AllocError> for Stop {
 
     fn from(_error: AllocError) -> Stop {
         Stop::Failed(Failure::Memory)
+    }
+}
+
+impl From<mp4_remux::Stop> for Stop {
+    fn from(stop: mp4_remux::Stop) -> Stop {
+        match stop {
+            mp4_remux::Stop::Refused(refusal) => Stop::Refused(Refusal::Media(refusal)),
+            mp4_remux::Stop::Failed(failure) => Stop::Failed(failure),
+        }
     }
 }
 

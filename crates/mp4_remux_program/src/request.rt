@@ -1,24 +1,81 @@
 //! The requests that a command line can make.
 
-use clap::{Arg, ArgMatches, Command, Error};
-use mp4_command::{print_error, words_of};
+use crate::argument::{
+    Argument, ArgumentError, brands, insertion, language, removal, replacement, rotation, tag,
+    track_of,
+};
+use clap::{Arg, ArgAction, ArgMatches, Command, Error};
+use mp4_command::{MISUSE, escaped, print_error, unreadable, words_of};
 use mp4_io::Failure;
 use std::alloc::{AllocError, Global};
 
-/// A request to write a file with its `moov` before its media data.
+/// The work that a command line asks for.
+#[derive(Debug, Drop)]
+pub enum Work {
+    /// The `moov` before the media data.
+    FastStart,
+    /// These changes.
+    Edit(Vec<Argument>),
+}
+
+/// A request to write a file.
 #[derive(Debug, Drop)]
 pub struct Request {
+    /// The work to do with the file.
+    pub work: Work,
     /// The name of the file to read. A name that is not UTF-8 has a mark.
     pub from: String,
     /// The name of the file to write; `-` is the standard output.
     pub to: String,
 }
 
+/// The reason why a command line makes no request.
+#[derive(Debug, Drop)]
+enum Misuse {
+    /// The text and the status of the parser: for a misuse, the help or the version.
+    Parsed(Error),
+    /// The value of an option has another form than this one.
+    Value {
+        /// The name of the option.
+        option: &'static str,
+        /// The value.
+        value: String,
+        /// The form that it should have.
+        form: &'static str,
+    },
+    /// The value of an option is not UTF-8. The text is the value, escaped.
+    NotText(String),
+    /// No option asks for an edit.
+    NoEdit,
+    /// Memory was refused.
+    Memory,
+}
+
+impl From<AllocError> for Misuse {
+    fn from(_error: AllocError) -> Misuse {
+        Misuse::Memory
+    }
+}
+
 /// The end of the help of `faststart`.
-const AFTER: &str =
+const AFTER_FAST_START: &str =
     "Every sample of every track keeps its bytes, times, flags and description. Every other byte stays
 the same, except for the offsets in the moov, which lead to the same bytes as before, and the sizes of boxes in which a
 stco becomes a co64. If an offset can't be kept, the file is refused.
+
+Exit status: 0 written, 1 refused (nothing is written), 2 misuse, 3 failed.";
+
+/// The end of the help of `edit`.
+const AFTER_EDIT: &str =
+    "A PATH is codes and numbers, such as moov/trak[1]/udta; / is the file. It leads to a box of the file or to one in
+the moov. Paths are those of IN, whatever the order of the options. TRACK is a track_ID.
+
+Every sample of every track keeps its bytes, times, flags and description. Every other box stays the same too, except
+for the named boxes, the sizes of the boxes around them, and the offsets in the moov, which lead to the same bytes as
+before; a stco may become a co64. So no edit may change a sample table (stbl) or a fragment (moof): it is refused.
+
+A dropped track has no samples any more. Its trak and trex are removed, and its traf become free boxes of the same
+length. Its media data stay where they are, and so do references to it. All other tracks keep every sample.
 
 Exit status: 0 written, 1 refused (nothing is written), 2 misuse, 3 failed.";
 
@@ -27,19 +84,107 @@ fn named<'a>(alloc: Global, name: &'a str, help: &'a str) -> Arg<'a> {
     Arg::new(alloc, name).required(true).help(help)
 }
 
+/// Returns the argument for the file to read.
+fn input<'a>(alloc: Global) -> Arg<'a> {
+    named(alloc, "IN", "File to read; it isn't changed")
+}
+
+/// The help for the file to write.
+const OUTPUT: &str =
+    "File to write, whole or not at all; an existing file is replaced; - is the standard output";
+
+/// Returns the argument for the file to write.
+fn output<'a>(alloc: Global) -> Arg<'a> {
+    named(alloc, "OUT", OUTPUT)
+}
+
+/// Returns the option `name` with a value that is shown as `value`.
+fn option<'a>(alloc: Global, name: &'a str, value: &'a str, help: &'a str) -> Arg<'a> {
+    Arg::new(alloc, name)
+        .long(name)
+        .value_name(value)
+        .help(help)
+}
+
+/// Returns the option `name` with a value, which may be given more than once.
+fn repeated<'a>(alloc: Global, name: &'a str, value: &'a str, help: &'a str) -> Arg<'a> {
+    option(alloc, name, value, help).action(ArgAction::Append)
+}
+
+/// Returns the option `name` without a value.
+fn flag<'a>(alloc: Global, name: &'a str, help: &'a str) -> Arg<'a> {
+    Arg::new(alloc, name)
+        .long(name)
+        .action(ArgAction::SetTrue)
+        .help(help)
+}
+
 /// Returns the command `faststart`.
 fn fast_start<'a>(alloc: Global) -> Result<Command<'a>, AllocError> {
     Command::new(alloc, "faststart")
         .about(
             "Write a copy of a file with the moov before the media data, so that a player gets it first",
         )
-        .after_help(AFTER)
-        .arg(named(alloc, "IN", "File to read; it isn't changed"))?
-        .arg(named(
+        .after_help(AFTER_FAST_START)
+        .arg(input(alloc))?
+        .arg(output(alloc))
+}
+
+/// Adds the options of `edit` for boxes.
+fn with_boxes<'a>(alloc: Global, command: Command<'a>) -> Result<Command<'a>, AllocError> {
+    let remove = "Remove the box at PATH";
+    let insert =
+        "Insert the boxes of FILE as the last children of PATH, or with PATH:N before its child N, from 0";
+    let replace = "Replace the box at PATH by that of FILE";
+    let brand =
+        "Set the major brand to the first of these codes, and add all of them to the compatible brands";
+    command
+        .arg(repeated(alloc, "remove", "PATH", remove))?
+        .arg(repeated(alloc, "insert", "PATH=FILE", insert))?
+        .arg(repeated(alloc, "replace", "PATH=FILE", replace))?
+        .arg(repeated(alloc, "brand", "BRANDS", brand))
+}
+
+/// Adds the options of `edit` for tracks.
+fn with_tracks<'a>(alloc: Global, command: Command<'a>) -> Result<Command<'a>, AllocError> {
+    let language = "Set the language of a track, such as 1=eng; an elng of it is removed";
+    let rotate =
+        "Turn the pictures of a track clockwise by 0, 90, 180 or 270 degrees, such as 1=90";
+    command
+        .arg(repeated(alloc, "language", "TRACK=LANGUAGE", language))?
+        .arg(repeated(alloc, "rotate", "TRACK=DEGREES", rotate))?
+        .arg(repeated(alloc, "enable", "TRACK", "Enable a track"))?
+        .arg(repeated(alloc, "disable", "TRACK", "Disable a track"))?
+        .arg(repeated(alloc, "drop-track", "TRACK", "Drop a track"))
+}
+
+/// Adds the options of `edit` for tags.
+fn with_tags<'a>(alloc: Global, command: Command<'a>) -> Result<Command<'a>, AllocError> {
+    let none = "Remove the tags of the movie";
+    let key = "Set a tag of iTunes to a text, such as \u{a9}alb=Blue";
+    command
+        .arg(flag(alloc, "no-tags", none))?
+        .arg(repeated(alloc, "title", "TEXT", "Set the tag \u{a9}nam"))?
+        .arg(repeated(alloc, "tag", "KEY=VALUE", key))?
+        .arg(repeated(
             alloc,
-            "OUT",
-            "File to write, whole or not at all; an existing file is replaced; - is the standard output",
+            "cover",
+            "FILE",
+            "Set the tag covr to a picture, JPEG or PNG",
         ))
+}
+
+/// Returns the command `edit`.
+fn edit<'a>(alloc: Global) -> Result<Command<'a>, AllocError> {
+    let about = "Write a copy of a file with other boxes, a track less, or other tags";
+    let command = Command::new(alloc, "edit")
+        .about(about)
+        .after_help(AFTER_EDIT)
+        .arg(input(alloc))?
+        .arg(output(alloc))?;
+    let command = with_boxes(alloc, command)?;
+    let command = with_tracks(alloc, command)?;
+    with_tags(alloc, command)
 }
 
 /// Returns the whole command line.
@@ -51,7 +196,8 @@ fn command<'a>(alloc: Global) -> Result<Command<'a>, AllocError> {
         )
         .subcommand_required(true)
         .arg_required_else_help(true)
-        .subcommand(fast_start(alloc)?)
+        .subcommand(fast_start(alloc)?)?
+        .subcommand(edit(alloc)?)
 }
 
 /// Returns the name of the file in the argument `id` of `matches`.
@@ -59,35 +205,164 @@ fn name_of(alloc: Global, matches: &ArgMatches<'_>, id: &str) -> Result<String, 
     String::from_str(alloc, matches.get_str(id).unwrap_or(""))
 }
 
-/// Returns the request in `matches`, those of the command.
-fn files_in(alloc: Global, matches: &ArgMatches<'_>) -> Result<Request, AllocError> {
+/// Returns the change that the option `name` with this value asks for.
+fn argument(alloc: Global, name: &str, value: &str) -> Result<Argument, ArgumentError> {
+    match name {
+        "remove" => removal(alloc, value),
+        "insert" => insertion(alloc, value),
+        "replace" => replacement(alloc, value),
+        "brand" => brands(alloc, value),
+        "language" => language(value),
+        "rotate" => rotation(value),
+        "enable" => Ok(Argument::Enable(track_of(value)?, true)),
+        "disable" => Ok(Argument::Enable(track_of(value)?, false)),
+        "drop-track" => Ok(Argument::DropTrack(track_of(value)?)),
+        "title" => Ok(Argument::Title(String::from_str(alloc, value)?)),
+        "tag" => tag(alloc, value),
+        _ => Ok(Argument::Cover(String::from_str(alloc, value)?)),
+    }
+}
+
+/// Returns `value`, the value of an option, if it is UTF-8.
+fn utf_8<'a>(alloc: Global, value: &'a str) -> Result<&'a str, Misuse> {
+    match unreadable(value) {
+        Some(shown) => Err(Misuse::NotText(String::from_str(alloc, shown)?)),
+        None => Ok(value),
+    }
+}
+
+/// Returns the misuse of the option `option` with a `value` that has the fault `error`.
+fn misuse_of(alloc: Global, option: &'static str, value: &str, error: ArgumentError) -> Misuse {
+    match error {
+        ArgumentError::Form(form) => match String::from_str(alloc, value) {
+            Ok(value) => Misuse::Value {
+                option,
+                value,
+                form,
+            },
+            Err(_) => Misuse::Memory,
+        },
+        ArgumentError::Memory => Misuse::Memory,
+    }
+}
+
+/// Adds to `arguments` what the option `name` asks for, each time that it is given.
+fn add_all(
+    alloc: Global,
+    matches: &ArgMatches<'_>,
+    name: &'static str,
+    arguments: &mut Vec<Argument>,
+) -> Result<(), Misuse> {
+    let Some(values) = matches.get_strs(name) else {
+        return Ok(());
+    };
+    for item in values {
+        let value: &str = utf_8(alloc, *item)?;
+        match argument(alloc, name, value) {
+            Ok(argument) => match arguments.push(argument) {
+                Ok(()) => {}
+                Err(_) => return Err(Misuse::Memory),
+            },
+            Err(error) => return Err(misuse_of(alloc, name, value, error)),
+        }
+    }
+    Ok(())
+}
+
+/// The options of `edit` that have a value.
+const OPTIONS: [&str; 12] = [
+    "remove",
+    "insert",
+    "replace",
+    "brand",
+    "language",
+    "rotate",
+    "enable",
+    "disable",
+    "drop-track",
+    "title",
+    "tag",
+    "cover",
+];
+
+/// Returns the changes in `matches`.
+fn edit_of(alloc: Global, matches: &ArgMatches<'_>) -> Result<Work, Misuse> {
+    let mut arguments = Vec::new(alloc);
+    for name in OPTIONS {
+        add_all(alloc, matches, name, &mut arguments)?;
+    }
+    if matches.get_flag("no-tags") {
+        match arguments.push(Argument::NoTags) {
+            Ok(()) => {}
+            Err(_) => return Err(Misuse::Memory),
+        }
+    }
+    if arguments.is_empty() {
+        return Err(Misuse::NoEdit);
+    }
+    Ok(Work::Edit(arguments))
+}
+
+/// Returns the request to do `work` with the files in `matches`.
+fn files_in(alloc: Global, matches: &ArgMatches<'_>, work: Work) -> Result<Request, AllocError> {
     Ok(Request {
+        work,
         from: name_of(alloc, matches, "IN")?,
         to: name_of(alloc, matches, "OUT")?,
     })
 }
 
 /// Returns the request in `matches`.
-fn asked(alloc: Global, matches: &ArgMatches<'_>) -> Result<Request, AllocError> {
+fn asked(alloc: Global, matches: &ArgMatches<'_>) -> Result<Request, Misuse> {
     match matches.subcommand() {
-        Some((_, inner)) => files_in(alloc, inner),
-        None => files_in(alloc, matches),
+        Some(("edit", inner)) => {
+            let work = edit_of(alloc, inner)?;
+            Ok(files_in(alloc, inner, work)?)
+        }
+        Some((_, inner)) => Ok(files_in(alloc, inner, Work::FastStart)?),
+        None => Ok(files_in(alloc, matches, Work::FastStart)?),
     }
 }
 
-/// Returns the request of a command line. The first of its `words` is the program's name. An error has the text to
-/// print and the status with which the program ends: for misuse, the help or the version.
-fn request_of(alloc: Global, words: &[String]) -> Result<Request, Error> {
-    let matches = command(alloc)?.try_get_matches_from(words)?;
-    Ok(asked(alloc, &matches)?)
+/// Returns the request of a command line. The first of its `words` is the program's name.
+fn request_of(alloc: Global, words: &[String]) -> Result<Request, Misuse> {
+    match command(alloc)?.try_get_matches_from(words) {
+        Ok(matches) => asked(alloc, &matches),
+        Err(error) => Err(Misuse::Parsed(error)),
+    }
 }
 
-/// Returns the request of the program's command line. If that names no file, prints a message to standard error, or the
+/// Prints to standard error what is wrong with a command line, or the help or the version. Returns the exit status.
+fn tell_misuse(rt: &HostRuntime, misuse: &Misuse) -> Result<u8, Failure> {
+    match misuse {
+        Misuse::Parsed(error) => return print_error(rt, error),
+        Misuse::Value {
+            option,
+            value,
+            form,
+        } => {
+            let shown = escaped(rt.alloc(), value.as_str())?;
+            let _ = eprintln!(rt; "mp4remux: --{option} {shown}: {form}");
+        }
+        Misuse::NotText(shown) => {
+            let _ = eprintln!(rt; "mp4remux: {shown}: this is not UTF-8");
+        }
+        Misuse::NoEdit => {
+            let _ = eprintln!(rt;
+                "mp4remux: -: no option asks for an edit; mp4remux edit --help lists them"
+            );
+        }
+        Misuse::Memory => return Err(Failure::Memory),
+    }
+    Ok(MISUSE)
+}
+
+/// Returns the request of the program's command line. If that makes none, prints a message to standard error, or the
 /// help or the version, and returns the exit status.
 pub fn requested(rt: &HostRuntime) -> Result<Result<Request, u8>, Failure> {
     let words = words_of(rt.alloc(), rt)?;
     match request_of(rt.alloc(), words.as_slice()) {
         Ok(request) => Ok(Ok(request)),
-        Err(error) => Ok(Err(print_error(rt, &error)?)),
+        Err(misuse) => Ok(Err(tell_misuse(rt, &misuse)?)),
     }
 }

@@ -4,11 +4,10 @@
 ghost use Rattle.std.specs.Prelude.{◌≡◌, Ok, codes};
 
 use crate::destination::{Destination, Node, NodeKind, choose_destination, partial_beside};
-use crate::movement::Move;
 use crate::outcome::Outcome;
 use crate::progress::Progress;
 use crate::refusal::Stop;
-use crate::write::write_fast_start;
+use crate::task::{Done, Task, carry_out};
 use mp4_command::{Kept, escaped};
 use mp4_io::{Failure, Output, Steady, is_closed_pipe};
 use std::fs::{File, Metadata, OpenOptions, Permissions};
@@ -136,14 +135,15 @@ fn create_beside(rt: &HostRuntime, target: &str) -> io::Result<(File, PathBuf)> 
     Err(io::Error::from(ErrorKind::AlreadyExists))
 }
 
-/// Writes everything, and removes the line of the progress.
+/// Writes everything that `task` asks for, and removes the line of the progress.
 fn write_everything<W: Write>(
     rt: &HostRuntime,
+    task: Task,
     first: &mut Kept<File>,
     second: &mut Kept<File>,
     output: &mut Output<Steady<Progress<W>>>,
-) -> Result<Option<Move>, Stop> {
-    let run = write_fast_start(rt.alloc(), first, second, output);
+) -> Result<Done, Stop> {
+    let run = carry_out(rt.alloc(), task, first, second, output);
     output.inner.inner.clear();
     run
 }
@@ -151,10 +151,11 @@ fn write_everything<W: Write>(
 /// Writes everything into a new file.
 fn write_file(
     rt: &HostRuntime,
+    task: Task,
     opened: &mut Opened,
     output: &mut Output<Steady<Progress<File>>>,
-) -> Result<Option<Move>, Stop> {
-    let done = write_everything(rt, &mut opened.first, &mut opened.second, output)?;
+) -> Result<Done, Stop> {
+    let done = write_everything(rt, task, &mut opened.first, &mut opened.second, output)?;
     if let Err(error) = output.inner.inner.inner.sync_all() {
         output.inner.error = Some(error);
         return Err(Stop::Failed(Failure::Write));
@@ -164,15 +165,8 @@ fn write_file(
 
 /// Prints what was written to the file whose name in messages is `shown`. A reader who has closed the pipe does without
 /// the line.
-fn tell_done(rt: &HostRuntime, shown: &str, done: Option<Move>) -> Result<Outcome, Failure> {
-    let printed = match done {
-        Some(moved) => println!(rt;
-            "{shown}: moov is moved from {} to {}",
-            moved.begin, moved.insert
-        ),
-        None => println!(rt; "{shown}: a copy, as no media data are before the moov"),
-    };
-    match printed {
+fn tell_done(rt: &HostRuntime, shown: &str, done: Done) -> Result<Outcome, Failure> {
+    match println!(rt; "{shown}: {done}") {
         Ok(()) => Ok(Outcome::Written),
         Err(error) if is_closed_pipe(&error) => Ok(Outcome::Written),
         Err(_) => Err(Failure::Write),
@@ -194,6 +188,7 @@ fn put_in_place(
 /// the file that is read.
 fn write_to(
     rt: &HostRuntime,
+    task: Task,
     names: Names<'_>,
     target: &str,
     mut opened: Opened,
@@ -204,7 +199,7 @@ fn write_to(
     };
     let permissions = Permissions::from_mode(opened.mode & 0o777);
     let mut output = Output::new(Steady::new(Progress::new(rt, file, opened.length)));
-    let run = write_file(rt, &mut opened, &mut output);
+    let run = write_file(rt, task, &mut opened, &mut output);
     let outcome = Outcome::of_run(&run);
     let done = match run {
         Ok(done) => done,
@@ -224,6 +219,7 @@ fn write_to(
 /// Writes the new file to the file to which the name `names.to` leads. The file that is read is the node `source`.
 fn write_named(
     rt: &HostRuntime,
+    task: Task,
     names: Names<'_>,
     opened: Opened,
     source: Node,
@@ -241,15 +237,15 @@ fn write_named(
         }
     };
     match path_of(rt, names.to, destination) {
-        Ok(target) => write_to(rt, names, target.as_str(), opened),
+        Ok(target) => write_to(rt, task, names, target.as_str(), opened),
         Err(error) => Ok(tell(rt, names.shown_to, &error)),
     }
 }
 
 /// Writes the new file to the standard output.
-fn write_to_pipe(rt: &HostRuntime, names: Names<'_>, mut opened: Opened) -> Outcome {
+fn write_to_pipe(rt: &HostRuntime, task: Task, names: Names<'_>, mut opened: Opened) -> Outcome {
     let mut output = Output::new(Steady::new(Progress::new(rt, rt.stdout(), opened.length)));
-    let run = write_everything(rt, &mut opened.first, &mut opened.second, &mut output);
+    let run = write_everything(rt, task, &mut opened.first, &mut opened.second, &mut output);
     let outcome = Outcome::of_run(&run);
     if let Err(stop) = run {
         tell_stop(rt, names, &stop, opened, output.inner.error);
@@ -308,9 +304,9 @@ fn misuse(rt: &HostRuntime, what: &str) -> Outcome
     Outcome::Misused
 }
 
-/// Writes the file `from` with its `moov` before its media data to the file `to`, or to the standard output if `to` is
-/// `-`.
-fn rewrite_file(rt: &HostRuntime, from: &str, to: &str) -> Result<Outcome, Failure> {
+/// Carries out `task` with the file `from`, and writes the new file to the file `to`, or to the standard output if `to`
+/// is `-`.
+fn rewrite_file(rt: &HostRuntime, task: Task, from: &str, to: &str) -> Result<Outcome, Failure> {
     if to == "-" && rt.stdout().is_terminal() {
         return Ok(misuse(
             rt,
@@ -328,14 +324,15 @@ fn rewrite_file(rt: &HostRuntime, from: &str, to: &str) -> Result<Outcome, Failu
         return Ok(Outcome::Failed);
     };
     if to == "-" {
-        return Ok(write_to_pipe(rt, names, opened));
+        return Ok(write_to_pipe(rt, task, names, opened));
     }
-    write_named(rt, names, opened, node)
+    write_named(rt, task, names, opened, node)
 }
 
-/// Writes the file `from` with its `moov` before its media data to the file `to`, or leaves `to` as it was. If `to` is
-/// `-`, writes to the standard output. It is a misuse if `from` is `-`, since the standard input can't be read twice.
-pub fn rewrite(rt: &HostRuntime, from: &str, to: &str) -> Result<Outcome, Failure>
+/// Carries out `task` with the file `from`, and writes the new file to the file `to`, or leaves `to` as it was. If `to`
+/// is `-`, writes to the standard output. It is a misuse if `from` is `-`, since the standard input can't be read
+/// twice.
+pub fn rewrite(rt: &HostRuntime, task: Task, from: &str, to: &str) -> Result<Outcome, Failure>
     ensures { from.now ≡ codes "-" → result ≡ Ok Outcome.Misused }
 {
     if from == "-" {
@@ -344,5 +341,5 @@ pub fn rewrite(rt: &HostRuntime, from: &str, to: &str) -> Result<Outcome, Failur
             "IN must be a file, since it is read twice; ./- is a file of this name",
         ));
     }
-    rewrite_file(rt, from, to)
+    rewrite_file(rt, task, from, to)
 }

@@ -70,7 +70,7 @@ fn write_kept<S: Source, T: Source, W: Write>(
 }
 
 /// Returns a source of what `plan` spells out over the file `again`.
-fn new_file<T: Source>(again: T, plan: Plan) -> Result<PieceSource<T>, Stop>
+pub fn new_file<T: Source>(again: T, plan: Plan) -> Result<PieceSource<T>, Stop>
     ensures old { IfOk result (λ s. s.old ≡ T.all again) }
     ensures pieces { IfOk result (λ s. s.pieces ≡ plan) }
 {
@@ -83,7 +83,7 @@ fn new_file<T: Source>(again: T, plan: Plan) -> Result<PieceSource<T>, Stop>
 
 /// Writes what `plan` spells out over `source`, if it keeps the media. `again` is a second source of the same file, and
 /// `twin` a second plan of the same new file.
-fn write_by<S: Source, T: Source, W: Write>(
+pub fn write_by<S: Source, T: Source, W: Write>(
     alloc: Global,
     source: S,
     again: T,

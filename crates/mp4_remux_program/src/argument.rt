@@ -1,0 +1,196 @@
+//! The values of the options of `edit`: the changes that they ask for.
+
+use mp4_frame::FourCC;
+use mp4_remux::edits::{Parent, packed_language};
+use mp4_walk::BoxPath;
+use std::alloc::{AllocError, Global};
+
+/// A change that an option asks for. Names of files are not read yet.
+#[derive(Debug, Drop)]
+pub enum Argument {
+    /// Removes the box at a path.
+    Remove(BoxPath),
+    /// Inserts the boxes of a file before a child, or after the last one.
+    Insert(Parent, Option<u64>, String),
+    /// Replaces the box at a path by that of a file.
+    Replace(BoxPath, String),
+    /// Sets brands.
+    Brands(Vec<FourCC>),
+    /// Sets the language of a track.
+    Language(u32, u16),
+    /// Turns the pictures of a track.
+    Rotate(u32, u32),
+    /// Enables or disables a track.
+    Enable(u32, bool),
+    /// Removes the tags.
+    NoTags,
+    /// Sets the title.
+    Title(String),
+    /// Sets a tag to a text.
+    Tag(FourCC, String),
+    /// Sets the cover to the picture of a file.
+    Cover(String),
+    /// Drops a track.
+    DropTrack(u32),
+}
+
+/// A fault of the value of an option.
+#[derive(Debug, Drop)]
+pub enum ArgumentError {
+    /// The value has another form. The text says which one it should have.
+    Form(&'static str),
+    /// Memory was refused.
+    Memory,
+}
+
+impl From<AllocError> for ArgumentError {
+    fn from(_error: AllocError) -> ArgumentError {
+        ArgumentError::Memory
+    }
+}
+
+/// The form of the value of `--remove`.
+const PATH: &str = "expected a path such as moov/udta or moov/trak[1]/edts";
+/// The form of the value of `--insert`.
+const INSERTION: &str =
+    "expected PATH=FILE or PATH:N=FILE, such as moov/udta=name.box or /:1=free.box";
+/// The form of the value of `--replace`.
+const REPLACEMENT: &str = "expected PATH=FILE, such as moov/udta=udta.box";
+/// The form of the value of `--brand`.
+const BRANDS: &str = "expected codes of four characters, separated by commas, such as isom,iso6";
+/// The form of the value of `--language`.
+const LANGUAGE: &str = "expected TRACK=LANGUAGE with three lower-case letters, such as 1=eng";
+/// The form of the value of `--rotate`.
+const ROTATION: &str = "expected TRACK=DEGREES with 0, 90, 180 or 270, such as 1=90";
+/// The form of the value of `--enable`, `--disable` and `--drop-track`.
+const TRACK: &str = "expected a track_ID, such as 1";
+/// The form of the value of `--tag`.
+const TAG: &str = "expected KEY=VALUE with a key of four characters, such as \u{a9}alb=Blue";
+
+/// Returns what is before the first `=` of `text`, and what is after it.
+fn halves<'a>(text: &'a str, form: &'static str) -> Result<(&'a str, &'a str), ArgumentError> {
+    match text.split_once('=') {
+        Some(parts) => Ok(parts),
+        None => Err(ArgumentError::Form(form)),
+    }
+}
+
+/// Returns the path that `text` is.
+fn path(alloc: Global, text: &str, form: &'static str) -> Result<BoxPath, ArgumentError> {
+    match BoxPath::parse(alloc, text) {
+        Ok(path) => Ok(path),
+        Err(mp4_walk::PathError::Memory) => Err(ArgumentError::Memory),
+        Err(_) => Err(ArgumentError::Form(form)),
+    }
+}
+
+/// Returns the level that `text` means: `/` is the file.
+fn parent(alloc: Global, text: &str) -> Result<Parent, ArgumentError> {
+    if text == "/" {
+        return Ok(Parent::File);
+    }
+    Ok(Parent::In(path(alloc, text, INSERTION)?))
+}
+
+/// Returns the level and the number of a child that `text` means, such as `moov:2`.
+fn place(alloc: Global, text: &str) -> Result<(Parent, Option<u64>), ArgumentError> {
+    if let Some((before, after)) = text.rsplit_once(':') {
+        if let Ok(number) = after.parse::<u64>() {
+            return Ok((parent(alloc, before)?, Some(number)));
+        }
+    }
+    Ok((parent(alloc, text)?, None))
+}
+
+/// Returns the code that `text` is: four characters up to U+00FF, of one byte each.
+fn code(text: &str, form: &'static str) -> Result<FourCC, ArgumentError> {
+    let mut value = [0; 4];
+    let mut rest = text.chars();
+    for byte in value.iter_mut() {
+        match rest.next() {
+            Some(c) => match u8::try_from(u32::from(c)) {
+                Ok(code) => *byte = code,
+                Err(_) => return Err(ArgumentError::Form(form)),
+            },
+            None => return Err(ArgumentError::Form(form)),
+        }
+    }
+    if rest.next().is_some() {
+        return Err(ArgumentError::Form(form));
+    }
+    Ok(FourCC { value })
+}
+
+/// Returns the track_ID that `text` is.
+fn track(text: &str, form: &'static str) -> Result<u32, ArgumentError> {
+    match text.parse::<u32>() {
+        Ok(id) => Ok(id),
+        Err(_) => Err(ArgumentError::Form(form)),
+    }
+}
+
+/// Returns the track_ID that a whole value is.
+pub(crate) fn track_of(value: &str) -> Result<u32, ArgumentError> {
+    track(value, TRACK)
+}
+
+/// Returns the change that `--remove` with this value asks for.
+pub(crate) fn removal(alloc: Global, value: &str) -> Result<Argument, ArgumentError> {
+    Ok(Argument::Remove(path(alloc, value, PATH)?))
+}
+
+/// Returns the change that `--insert` with this value asks for.
+pub(crate) fn insertion(alloc: Global, value: &str) -> Result<Argument, ArgumentError> {
+    let (to, file) = halves(value, INSERTION)?;
+    let (level, before) = place(alloc, to)?;
+    let name = String::from_str(alloc, file)?;
+    Ok(Argument::Insert(level, before, name))
+}
+
+/// Returns the change that `--replace` with this value asks for.
+pub(crate) fn replacement(alloc: Global, value: &str) -> Result<Argument, ArgumentError> {
+    let (to, file) = halves(value, REPLACEMENT)?;
+    let name = String::from_str(alloc, file)?;
+    Ok(Argument::Replace(path(alloc, to, REPLACEMENT)?, name))
+}
+
+/// Returns the change that `--brand` with this value asks for.
+pub(crate) fn brands(alloc: Global, value: &str) -> Result<Argument, ArgumentError> {
+    let mut all = Vec::new(alloc);
+    for part in value.split(',') {
+        match all.push(code(part, BRANDS)?) {
+            Ok(()) => {}
+            Err(_) => return Err(ArgumentError::Memory),
+        }
+    }
+    Ok(Argument::Brands(all))
+}
+
+/// Returns the change that `--language` with this value asks for.
+pub(crate) fn language(value: &str) -> Result<Argument, ArgumentError> {
+    let (id, name) = halves(value, LANGUAGE)?;
+    match packed_language(name) {
+        Some(packed) => Ok(Argument::Language(track(id, LANGUAGE)?, packed)),
+        None => Err(ArgumentError::Form(LANGUAGE)),
+    }
+}
+
+/// Returns the change that `--rotate` with this value asks for.
+pub(crate) fn rotation(value: &str) -> Result<Argument, ArgumentError> {
+    let (id, degrees) = halves(value, ROTATION)?;
+    let id = track(id, ROTATION)?;
+    match degrees {
+        "0" => Ok(Argument::Rotate(id, 0)),
+        "90" => Ok(Argument::Rotate(id, 90)),
+        "180" => Ok(Argument::Rotate(id, 180)),
+        "270" => Ok(Argument::Rotate(id, 270)),
+        _ => Err(ArgumentError::Form(ROTATION)),
+    }
+}
+
+/// Returns the change that `--tag` with this value asks for.
+pub(crate) fn tag(alloc: Global, value: &str) -> Result<Argument, ArgumentError> {
+    let (key, text) = halves(value, TAG)?;
+    let text = String::from_str(alloc, text)?;
+    Ok(Argument::Tag(code(key, TAG)?, text))
+}
