@@ -245,13 +245,13 @@ def listed(name, entries):
 
 
 def together(*alternatives):
-    """Returns the fields that any alternative has, those that not all have as optional."""
+    """Returns the fields that any alternative has, those that not all always have as optional."""
     found = {}
     for fields in alternatives:
         for field in fields:
             found.setdefault(field["name"], dict(field))
     for name, field in found.items():
-        if not all(any(it["name"] == name for it in fields) for fields in alternatives):
+        if not all(any(it["name"] == name and not it.get("optional") for it in fields) for fields in alternatives):
             field["optional"] = True
     return list(found.values())
 
@@ -383,6 +383,16 @@ class Walk:
     def of_namedby(self, inside, names):
         return together(*(self.fields(inside[0], it) for it in names))
 
+    def of_nested(self, inside, _):
+        shape, constant = re.search(
+            rf"impl HasFields for {inside[0][0]} \{{ ghost shown = "
+            r"\{ λ view \w\. ⟦<(\w+) as NamedShape>⟧\.shown (\w+)\.now view",
+            self.source.text).groups()
+        return self.fields(self.source.types[shape], self.source.constant(constant))
+
+    def of_avctail(self, _, name):
+        return together(self.of_nested([type_of("AvcExtension")], None), run(name))
+
     def of_typed(self, inside, names):
         tag = re.search(rf"impl Tag for {inside[0][0]} .*? const TAG: u32 = (\w+);", self.source.text)[1]
         code = self.source.constant(tag).to_bytes(4, "big").decode("latin-1")
@@ -503,12 +513,16 @@ def protection_system(_, names):
     return [{"name": names[0], "kind": "bytes", "length": 16}, known]
 
 
+def set_code(_, names):
+    return [{"name": names, "kind": "code", "optional": True}]
+
+
 def item_id(_, names):
     return [{**field, "bits_by_version": [16, 32]} for field in number(names, 32)]
 
 
 OWN = {
-    "ItemId": item_id,
+    "ItemId": item_id, "SetCode": set_code,
     "ProtectionSystem": protection_system,
     "ChannelMapping": channel_mapping, "BlockData": flac_block_data, "Country": locale, "Language": locale,
     "TypedValue": typed_value, "SampleSizes": sample_sizes,

@@ -5,9 +5,10 @@ package.
     tools/python_classes.py           print the module
     tools/python_classes.py --write   write the module, and the names of its classes into the package
 
-The boxes that docs/boxes.json describes have the fields of this description. The other boxes have those of their
-structs in include/mp4_box_codec.h, with the lists that its functions take beside a struct. The tables below say what a
-type of C doesn't: which numbers are codes, flags or fixed-point numbers, and what a new value has."""
+A box with a struct in include/mp4_box_codec.h has the fields of the struct, with the lists that the functions take
+beside it, since these functions also write the box. The other boxes have the fields of their description in
+docs/boxes.json. The tables below say what a type of C doesn't: which numbers are codes, flags or fixed-point numbers,
+and what a new value has."""
 
 import json
 import keyword

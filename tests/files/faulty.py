@@ -49,9 +49,10 @@ def duration_of(track):
     return 0 if at < 0 else number_at(track, at + (32 if wide else 24), 8 if wide else 4)
 
 
-def trak(table, number=1, flags=1, header=None, extra=b""):
-    """Returns a track with these tables, whose durations are those of its samples."""
-    dinf = box(b"dinf", full(b"dref", 0, 0, be(4, 1) + full(b"url ", 0, flags)))
+def trak(table, number=1, flags=1, header=None, extra=b"", reference=None):
+    """Returns a track with these tables, whose durations are those of its samples. Its data reference is `reference`,
+    or a `url ` with these flags."""
+    dinf = box(b"dinf", full(b"dref", 0, 0, be(4, 1) + (reference or full(b"url ", 0, flags))))
     ticks = ticks_in(table)
     media = box(b"mdia", lasting(mdhd(1000, b"und"), ticks) + handler(b"vide", b"")
                 + box(b"minf", full(b"vmhd", 0, 1, bytes(8)) + dinf + table))
@@ -669,12 +670,19 @@ def references():
     The chunk of the track is in no media data."""
     found = []
     table = stbl([3], [1])
-    for name in (b"url ", b"urn ", b"alis", b"rsrc", b"abcd"):
+    # A `urn ` has a name that a byte of 0 ends.
+    for name, fields in ((b"url ", b""), (b"urn ", b"urn:a\0"), (b"alis", b""), (b"rsrc", b""), (b"abcd", b"")):
         for flags, is_here in ((1, True), (0, False), (2, False), (3, True)):
-            data = front() + moov(trak(table)).replace(full(b"url ", 0, 1), full(name, 0, flags))
+            data = front() + moov(trak(table, reference=full(name, 0, flags, fields)))
             said = lies("chunk 1 at offset 3, which is in no mdat")
             found.append((f"references: {name.decode()}, {flags}", data, [
                 line(data, b"stco", f"{STBL}/stco", said)] if is_here else []))
+    # A `urn ` without the end of its name can't be read, and its flag still says where the media are.
+    for flags, name in ((1, b""), (0, b"urn:a")):
+        data = front() + moov(trak(table, reference=full(b"urn ", 0, flags, name)))
+        said = [line(data, b"urn ", "moov/trak/mdia/minf/dinf/dref/urn ", "string has no end in the box"),
+                line(data, b"stco", f"{STBL}/stco", lies("chunk 1 at offset 3, which is in no mdat"))]
+        found.append((f"references: a urn without an end, {flags}", data, said[:1 + flags]))
     # A box of this code in another box is no data reference.
     data = front() + moov(trak(table, 1, 1, None, box(b"udta", full(b"url ", 0, 0))))
     found.append(("references: a url in a udta", data, [

@@ -339,6 +339,29 @@ def hevc():
             + box(b"hvcC", front + b"\2" + sets) + box(b"hvcC", front))
 
 
+def decoders():
+    """Returns configurations of AVC and of VP9, and references to media data:
+
+    - AVC: High 10 with the format of samples and an extension of a set, and with bytes after them; High without the
+      format, and with three bytes instead of it; Baseline with four bytes; a picture set that doesn't fit in the box.
+    - VP9: version 1 with and without bytes for the decoder, version 0 of the drafts, version 2.
+    - References: by URL, by URN with and without a location and with one that doesn't end, by an alias of five bytes,
+      and by none."""
+    sets = b"\xff\xe1" + be(2, 4) + b"\x67\x6e\0\x1f" + b"\1" + be(2, 3) + b"\x68\xee\x06"
+    ten, high, base = b"\1\x6e\0\x1f" + sets, b"\1\x64\0\x28" + sets, b"\1\x42\xc0\x1e" + sets
+    samples = b"\xfd\xfa\xfa\1" + be(2, 2) + b"\x6d\x99"
+    avc = [ten + samples, ten + samples + b"\7\6\5", high, high + b"\xfd\xf8\xf8", base + b"\xfd\xf8\xf8\0",
+           high[:-1]]
+    vp9 = [b"\2\x1f\xa3\x09\x10\x09" + be(2, 0), b"\1\x0a\x86\1\1\1" + be(2, 3) + b"\xaa\xbb\xcc"]
+    vpcc = [full(b"vpcC", 1, 0, it) for it in vp9] + [full(b"vpcC", 0, 0, b"\2\x1f\xa5\x13" + be(2, 1) + b"\xdd"),
+                                                   full(b"vpcC", 2, 0, vp9[0])]
+    places = [full(b"url ", 0, 1), full(b"urn ", 0, 0, b"urn:a\0http://b\0"), full(b"urn ", 0, 1, b"urn:c\0"),
+              full(b"urn ", 0, 0, b"urn:d\0e"), full(b"urn ", 0, 0, b"urn:f"), full(b"alis", 0, 0, b"\1\2\3\4\5"),
+              full(b"alis", 0, 1)]
+    return (b"".join(box(b"avcC", it) for it in avc) + b"".join(vpcc)
+            + box(b"dinf", full(b"dref", 0, 0, be(4, len(places)) + b"".join(places))))
+
+
 def subtitles():
     """Returns entries of subtitles and other text:
 
@@ -463,4 +486,4 @@ def made():
     return {"counted": counted(), "sounds": sounds(), "groups": groups(), "pictures": pictures(),
             "indexed": indexed(), "tables": tables(), "segments": segments(), "hevc": hevc(), "newer": newer(),
             "quicktime": quicktime(), "titles": titles(), "fragments": fragments(), "subtitles": subtitles(),
-            "signs": signs(), "texts": texts()}
+            "signs": signs(), "texts": texts(), "decoders": decoders()}

@@ -1,7 +1,7 @@
 """The part of the slow reader for boxes other than those of the codec. It has their fields as mp4inspect shows them,
 under the names of the standards, and as the struct has them. It follows ISO/IEC 14496-12, 14496-14, 14496-15, 14496-30,
-23001-7, 23008-12, ETSI TS 102 366, QuickTime's format, iTunes, and the bindings of AV1, Opus, FLAC, Apple Lossless and
-Dolby Vision, in the sections that crates/mp4_extra/CALLING.md names.
+23001-7, 23008-12, ETSI TS 102 366, QuickTime's format, iTunes, and the bindings of AV1, Opus, FLAC, VP8 and VP9, Apple
+Lossless and Dolby Vision, in the sections that crates/mp4_extra/CALLING.md names.
 """
 
 from tests.readers.headers import Fault, check
@@ -235,6 +235,12 @@ def alac(c):
         c.bytes("ALACChannelLayoutInfo [channel_layout_info]")
 
 
+def alis(c):
+    c.full(1)
+    if c.raw or c.room():
+        c.bytes("data_bytes [alias]")
+
+
 def auxc(c):
     c.full(1)
     c.terminated("aux_type")
@@ -251,6 +257,40 @@ def av1c(c):
         if reserved:
             c.put("reserved_without_delay", reserved)
     c.bytes("configOBUs")
+
+
+# The names of profiles (ISO/IEC 14496-10, A.2).
+PROFILES = {44: "CAVLC 4:4:4 Intra", 66: "Baseline", 77: "Main", 88: "Extended", 100: "High", 110: "High 10",
+            122: "High 4:2:2", 244: "High 4:4:4 Predictive"}
+
+
+def parameter_sets(c, name, count):
+    c.put(name, [c.as_bytes(c.take(c.count(2, 1, "bytes"))) for _ in range(count)])
+
+
+def counted_sets(c, count_name, name):
+    count = c.number(1)
+    if not c.raw:
+        c.put(count_name, count)
+    parameter_sets(c, name, count)
+
+
+def avcc(c):
+    c.bits("8 configurationVersion, 8 AVCProfileIndication, 8 profile_compatibility, 8 AVCLevelIndication,"
+           "6 -reserved_before_length=63, 2 lengthSizeMinusOne, 3 -reserved_before_sets=7,"
+           "5 numOfSequenceParameterSets")
+    profile, count = c.fields["AVCProfileIndication"], c.fields["numOfSequenceParameterSets"]
+    c.named({"AVCProfileIndication": PROFILES})
+    parameter_sets(c, "sequenceParameterSetNALUnit [sequence_parameter_sets]", count)
+    counted_sets(c, "numOfPictureParameterSets", "pictureParameterSetNALUnit [picture_parameter_sets]")
+    # Has no part for the format of samples in Baseline, Main and Extended (5.3.3.1.2), and in old files of any profile.
+    if profile not in (66, 77, 88) and c.room() >= 4:
+        c.bits("6 -reserved_before_chroma_format=63, 2 chroma_format, 5 -reserved_before_luma=31,"
+               "3 bit_depth_luma_minus8, 5 -reserved_before_chroma=31, 3 bit_depth_chroma_minus8")
+        counted_sets(
+            c, "numOfSequenceParameterSetExt", "sequenceParameterSetExtNALUnit [sequence_parameter_set_exts]")
+    if c.raw or c.room():
+        c.bytes("data_bytes [rest]")
 
 
 def channel(d):
@@ -465,6 +505,38 @@ def gmin(c):
     if not c.raw:
         c.fields["balance"] /= 256
     c.reserved(2)
+
+
+def set_code(c, name):
+    """Reads a code, which is shown unless it is 0."""
+    piece = c.take(4)
+    if c.raw or any(piece):
+        c.put(name, c.as_code(piece))
+
+
+def hdlr(c):
+    c.numbers("1 version, 3 flags")
+    set_code(c, "component_type")
+    c.code("handler_type")
+    set_code(c, "component_manufacturer")
+    c.bits("32 -component_flags=0, 32 -component_flags_mask=0")
+    # A byte of 0 ends the name, or a byte before it counts its bytes.
+    check(c.room() > 0, "hdlr size too small")
+    name = c.rest()
+    if c.raw:
+        c.put("name", c.as_bytes(name))
+    else:
+        put_handler_name(c, name)
+
+
+def put_handler_name(c, name):
+    """Puts the name of a handler. In QuickTime a byte before it is its number of bytes, and no byte of 0 has to end
+    it."""
+    rest = name[1:]
+    if rest and name[0] in (len(rest), len(rest.removesuffix(b"\0"))):
+        c.put_string("name", rest, b"\0" if rest.endswith(b"\0") else b"")
+    else:
+        c.put_string("name", name, b"\0")
 
 
 def hmhd(c):
@@ -888,6 +960,32 @@ def tref(c):
     c.put("references", found)
 
 
+def urn(c):
+    c.full(1)
+    c.terminated("name")
+    if c.raw:
+        c.bytes("location")
+    elif c.room():
+        c.string("location")
+
+
+def vpcc(c):
+    version, _ = c.full(2)
+    c.numbers("1 profile, 1 level")
+    if version == 0:
+        c.bits("4 bitDepth, 4 colorSpace, 4 chromaSubsampling, 3 transferFunction, 1 videoFullRangeFlag")
+    else:
+        c.bits("4 bitDepth, 3 chromaSubsampling, 1 videoFullRangeFlag, 8 colourPrimaries, 8 transferCharacteristics,"
+               "8 matrixCoefficients")
+        c.named({"colourPrimaries": COLOURS["colour_primaries"],
+                 "transferCharacteristics": COLOURS["transfer_characteristics"],
+                 "matrixCoefficients": COLOURS["matrix_coefficients"]})
+    c.named({"chromaSubsampling": {0: "4:2:0 vertical", 1: "4:2:0 colocated", 2: "4:2:2", 3: "4:4:4"}})
+    found = c.take(c.count(2, 1, "bytes"))
+    if c.raw or found:
+        c.put("codecInitializationData", c.as_bytes(found))
+
+
 def vvcc(c):
     c.full(1)
     c.bits("5 -reserved=31, 2 LengthSizeMinusOne, 1 ptl_present_flag")
@@ -903,6 +1001,7 @@ def wvtt(c):
 MORE = {
     "alac": alac, "chan": chan, "chnl": chnl, "dvcC": dolby_vision, "dvvC": dolby_vision, "enda": enda, "fiel": fiel,
     "mean": item_text, "name": item_text, "srat": srat, "vvcC": vvcc,
+    "alis": alis, "avcC": avcc, "hdlr": hdlr, "urn ": urn, "vpcC": vpcc,
     "auxC": auxc, "iloc": iloc, "infe": infe, "ipma": ipma, "irot": irot, "ispe": ispe, "pitm": pitm, "pixi": pixi,
     "imir": lambda c: c.bits("7 -reserved=0, 1 axis"), "sthd": lambda c: c.full(1),
     "gmin": gmin, "hmhd": hmhd, "iods": iods, "leva": leva, "ssix": ssix, "tcmi": tcmi, "text": text,

@@ -104,19 +104,8 @@ def float_in(data):
     return found if math.isfinite(found) else Hex(data.hex())
 
 
-def handler_name(data):
-    """Returns the name of a handler, which goes up to the end of its box without the last byte. In QuickTime a byte
-    before the name gives its length, and the name may end without a byte of 0."""
-    rest = data[1:]
-    if data[0] in (len(rest), len(rest.removesuffix(b"\0"))):
-        data = rest if rest.endswith(b"\0") else rest + b"\0"
-    return lossy(data[:-1])
-
-
 def own_texts(name, box, content):
     """Returns the fields of `box`, with the text of its content where the codec keeps the text only if it is UTF-8."""
-    if name == "hdlr":
-        box["name"] = handler_name(content[24:])
     if name == "url ":
         box["location"] = lossy(content[4:-1])
     return box
@@ -384,7 +373,8 @@ FLAGS = {
              0x20000: "default_base_is_moof"},
     "trun": {1: "data_offset", 4: "first_sample_flags", 0x100: "sample_duration", 0x200: "sample_size",
              0x400: "sample_flags", 0x800: "sample_composition_time_offset"},
-    "url ": {1: "same_file"}, "saio": {1: "aux_info_type"}, "saiz": {1: "aux_info_type"}, "schm": {1: "scheme_uri"},
+    "url ": {1: "same_file"}, "urn ": {1: "same_file"}, "alis": {1: "same_file"}, "schm": {1: "scheme_uri"},
+    "saio": {1: "aux_info_type"}, "saiz": {1: "aux_info_type"},
     "senc": {2: "UseSubSampleEncryption"}, "infe": {1: "hidden"}, "ipma": {1: "property_index of 15 bits"},
 }
 # The channels of a sound, each with its bit (QuickTime File Format, "Audio channel layout atom").
@@ -403,8 +393,9 @@ BYTES = {"message_data", "data_bytes", "compressorname", "reserved0", "reserved1
 ORDERS = {
     "emsg": ["version", "flags", "scheme_id_uri", "value", "timescale", "presentation_time", "presentation_time_delta",
              "event_duration", "id", "message_data"],
-    "vpcC": ["version", "flags", "profile", "level", "bitDepth", "chromaSubsampling", "videoFullRangeFlag",
-             "colourPrimaries", "transferCharacteristics", "matrixCoefficients", "codecInitializationDataSize"],
+    "vpcC": ["version", "flags", "profile", "level", "bitDepth", "colorSpace", "chromaSubsampling", "transferFunction",
+             "videoFullRangeFlag", "colourPrimaries", "transferCharacteristics", "matrixCoefficients",
+             "codecInitializationDataSize"],
     "decConfigDescr": ["objectTypeIndication", "streamType", "upStream", "bufferSizeDB", "maxBitrate", "avgBitrate",
                        "decSpecificInfo"],
     "trun": ["version", "flags", "sample_count", "data_offset", "first_sample_flags", "samples"],

@@ -280,7 +280,7 @@ def outcome(buffer, name, start, size, more=False):
     try:
         row = Row(buffer, start, size)
         if more and name in MORE:
-            return name.lower(), extra_box(name, buffer[start + 8:], size - 8)
+            return name.lower().strip(), extra_box(name, buffer[start + 8:], size - 8)
         if name in READERS:
             return name, READERS[name](row)
         return "other", other(row, int.from_bytes(name.encode("latin-1"), "big"))

@@ -16,7 +16,7 @@ LETTERS = {"0": "\0", "n": "\n", "r": "\r", "t": "\t"}
 FAULTS = {"InvalidData": "Invalid", "BoxNotFound": "NotFound"}
 CODES = {
     "major_brand", "compatible_brands", "handler_type", "data_format", "grouping_type", "scheme_type", "aux_info_type",
-    "reference_type", "namespace", "item_type",
+    "reference_type", "namespace", "item_type", "component_type", "component_manufacturer",
 }
 # Fields with the same names that are not codes: a number, and a string.
 NO_CODES = {("SidxEntry", "reference_type"), ("Stpp", "namespace")}
@@ -33,7 +33,7 @@ def names():
 
 
 NAMES = names()
-DECLARED = {name.lower() for name in MORE}
+DECLARED = {name.lower().strip() for name in MORE}
 
 
 class Printed:
@@ -161,9 +161,12 @@ def fault_of(error):
 
 def flat(value, path=""):
     """Yields the fields of `value`, a box, and the fields of its structs, each with its full path. None has no fields.
-    The number before a value of another type has its own name."""
+    The number before a value of another type has its own name. Bytes instead of a part are the rest of the box."""
     if isinstance(value, tuple):
-        value = value[1] if value[0] == "Own" else {path + "_type": value[1], "data_bytes": value[2]}
+        if value[0] in ("Own", "Known"):
+            value = value[1]
+        else:
+            value = {path + "_type": value[1], "data_bytes": value[2]} if len(value) == 3 else {"rest": value[1]}
         path = ""
     if isinstance(value, dict):
         for name, inner in value.items():

@@ -93,7 +93,7 @@ def say(count, kinds, seconds, more):
         print(f"{call}: {mine.get(('value', ''), 0)} values{skipped}, {sum(texts.values())} faults")
         for text, times in sorted(texts.items(), key=lambda it: -it[1]):
             print(f"  {times:6} {text}")
-        declared = sorted(map(str.lower, MORE))
+        declared = sorted(name.lower().strip() for name in MORE)
         names = {"declared box": declared, "all boxes": [*READERS, *declared, "other"], "trees": TREES}
         names = names.get(call, [*READERS, "other"] if "kept" in call else READERS)
         read = {name: mine.get(("of name", name), 0) for name in names}

@@ -17,7 +17,8 @@ NUMBERS.update((f"I{bits}", f"{bits // 8}, signed") for bits in (8, 16, 32, 64))
 # Shapes without arguments that are one field.
 FIELDS = {
     **NUMBERS, "Time": "t", "SignedTime": "t, signed", "Code": "code", "Codes": "to the end; each code",
-    "Numbers": "to the end; each 4", "Rest": "to the end", "Terminated": "to a byte of 0",
+    "Numbers": "to the end; each 4", "Rest": "to the end", "HandlerName": "to the end, at least 1 byte",
+    "Terminated": "to a byte of 0",
 }
 VERSIONS = {1: "version 0", 2: "version 0 or 1", 3: "version 0 to 2", 4: "version 0 to 3"}
 # An item of the list: a code, its section, and its parts. Its lines are joined first.
@@ -121,6 +122,10 @@ class Declared:
         elif name == "WithSize":
             yield "size (4)"
             yield from self.parts_of(inside[0], fields)
+        elif name == "Dependent":
+            bits, entry, *widths = inside
+            yield f"{next(fields, None)} ({self.entry(bits[0], *(it[0] for it in widths))})"
+            yield from self.parts_of(entry, fields)
         elif name == "Zeros":
             if inside[0][0] != "0":
                 yield f"reserved ({inside[0][0]})"
@@ -151,6 +156,14 @@ class Declared:
             return f"to the end; each {self.entry(*names)}"
         if name == "Each":
             return f"count {NUMBERS[names[0]]}; each: {', '.join(self.parts_of_entry(names[1]))}"
+        if name == "Counted":
+            return f"counted before; each: {', '.join(self.parts_of_entry(names[0]))}"
+        if name == "AvcTail":
+            known, least = re.search(
+                r"if has_format\(context\.version\) && (\d+) <= left { .*? read_after::<Nested<(\w+)>>",
+                self.source).groups()[::-1]
+            parts = ", ".join(self.parts_of_entry(known))
+            return f"{parts}; by profile, if {least} bytes are left, else to the end"
         if name == "EachToEnd":
             return f"to the end; each: {', '.join(self.parts_of_entry(names[0]))}"
         if name == "Rows":

@@ -372,7 +372,7 @@ class Documents(unittest.TestCase):
         """The comment of mp4_fields names the described boxes that have no function."""
         header = read(TOP / "include/mp4_box_codec.h")
         listed = re.search(r"It also reads (alac[^.]*)\.", header)[1]
-        codes = [box["code"] for box in describe.boxes()]
+        codes = [box["code"].strip() for box in describe.boxes()]
         codes = [it for it in codes if f" mp4_{it.lower()}(" not in header]
         self.assertEqual(re.split(r",\s+|\s+and\s+", listed), codes)
 

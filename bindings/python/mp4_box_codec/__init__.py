@@ -46,15 +46,15 @@ __all__ = [
 ]
 # The names of `classes`. tools/python_classes.py writes them here too, since type checkers read them here.
 __all__ += [
-    "Alac", "AuxC", "Av1C", "Avc1", "AvcC", "Btrt", "Chan", "ChanMChannelDescriptions", "Chnl", "Clap", "Clli", "Co64",
-    "Colr", "Cslg", "Ctts", "DOps", "Dac3", "Data", "Dec3", "Dec3Substreams", "DfLa", "DfLaMetadataBlocks", "Dinf",
-    "Dref", "DvcC", "DvvC", "Elng", "Elst", "Emsg", "Enda", "Esds", "Fiel", "Frma", "Ftyp", "Gmin", "Hdlr", "Hev1",
-    "Hmhd", "HvcC", "HvcCArrays", "Iloc", "Imir", "Infe", "Iods", "Ipma", "IpmaEntries", "IpmaEntriesAssociations",
-    "Irot", "Ispe", "Keys", "KeysEntries", "Kind", "Leva", "Mdcv", "Mdhd", "Mean", "Mehd", "Mfhd", "Mfro", "Mp4a",
-    "Mvhd", "Name", "Nmhd", "Pasp", "Pitm", "Pixi", "Prft", "Pssh", "Saio", "Saiz", "Sbgp", "SbgpEntries", "Schm",
-    "Sdtp", "SdtpEntries", "Senc", "Sgpd", "SgpdEntries", "Sidx", "SidxReferences", "Smhd", "Srat", "Ssix",
-    "SsixSubsegments", "SsixSubsegmentsRanges", "Stco", "Sthd", "Stpp", "Stsc", "Stsd", "Stss", "Stsz", "Stts", "Styp",
-    "Stz2", "Subs", "SubsEntries", "SubsEntriesSubsamples", "Tcmi", "Tenc", "Text", "Tfdt", "Tfhd", "Tfra",
-    "TfraEntries", "Tkhd", "Tref", "TrefReferences", "Trex", "Trun", "Tx3g", "Url", "Vmhd", "Vp09", "VpcC", "VvcC",
-    "Wvtt",
+    "Alac", "Alis", "AuxC", "Av1C", "Avc1", "AvcC", "Btrt", "Chan", "ChanMChannelDescriptions", "Chnl", "Clap", "Clli",
+    "Co64", "Colr", "Cslg", "Ctts", "DOps", "Dac3", "Data", "Dec3", "Dec3Substreams", "DfLa", "DfLaMetadataBlocks",
+    "Dinf", "Dref", "DvcC", "DvvC", "Elng", "Elst", "Emsg", "Enda", "Esds", "Fiel", "Frma", "Ftyp", "Gmin", "Hdlr",
+    "Hev1", "Hmhd", "HvcC", "HvcCArrays", "Iloc", "Imir", "Infe", "Iods", "Ipma", "IpmaEntries",
+    "IpmaEntriesAssociations", "Irot", "Ispe", "Keys", "KeysEntries", "Kind", "Leva", "Mdcv", "Mdhd", "Mean", "Mehd",
+    "Mfhd", "Mfro", "Mp4a", "Mvhd", "Name", "Nmhd", "Pasp", "Pitm", "Pixi", "Prft", "Pssh", "Saio", "Saiz", "Sbgp",
+    "SbgpEntries", "Schm", "Sdtp", "SdtpEntries", "Senc", "Sgpd", "SgpdEntries", "Sidx", "SidxReferences", "Smhd",
+    "Srat", "Ssix", "SsixSubsegments", "SsixSubsegmentsRanges", "Stco", "Sthd", "Stpp", "Stsc", "Stsd", "Stss", "Stsz",
+    "Stts", "Styp", "Stz2", "Subs", "SubsEntries", "SubsEntriesSubsamples", "Tcmi", "Tenc", "Text", "Tfdt", "Tfhd",
+    "Tfra", "TfraEntries", "Tkhd", "Tref", "TrefReferences", "Trex", "Trun", "Tx3g", "Url", "Urn", "Vmhd", "Vp09",
+    "VpcC", "VvcC", "Wvtt",
 ]

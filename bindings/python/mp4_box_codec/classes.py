@@ -625,6 +625,18 @@ class Alac(Fields):
 
 
 @dataclass(frozen=True)
+class Alis(Fields):
+    """A reference to media data by a Macintosh alias (`alis`, QuickTime File Format, "Data reference atoms")."""
+
+    code = "alis"
+    _bits = {"version": (8,), "flags": (24,)}
+
+    version: int
+    flags: int
+    data_bytes: Optional[bytes] = None
+
+
+@dataclass(frozen=True)
 class AuxC(Fields):
     """The role of an auxiliary image (`auxC`, ISO/IEC 23008-12, 6.5.8)."""
 
@@ -1829,6 +1841,21 @@ class Tref(Fields):
 
 
 @dataclass(frozen=True)
+class Urn(Fields):
+    """A reference to media data by a name (`urn`, ISO/IEC 14496-12, 8.7.2)."""
+
+    code = "urn "
+    _bits = {"version": (8,), "flags": (24,)}
+
+    version: int
+    flags: int
+    name: str
+    name_hex: Optional[bytes] = None
+    location: Optional[str] = None
+    location_hex: Optional[bytes] = None
+
+
+@dataclass(frozen=True)
 class VvcC(Fields):
     """The configuration of a VVC decoder (`vvcC`, ISO/IEC 14496-15, 11.2.4.2)."""
 
@@ -1855,24 +1882,24 @@ class Wvtt(Fields):
 
 
 listed(
-    Alac, AuxC, Av1C, Avc1, AvcC, Btrt, Chan, Chnl, Clap, Clli, Co64, Colr, Cslg, Ctts, DOps, Dac3, Data, Dec3, DfLa,
-    Dinf, Dref, DvcC, DvvC, Elng, Elst, Emsg, Enda, Esds, Fiel, Frma, Ftyp, Gmin, Hdlr, Hev1, Hmhd, HvcC, Iloc, Imir,
-    Infe, Iods, Ipma, Irot, Ispe, Keys, Kind, Leva, Mdcv, Mdhd, Mean, Mehd, Mfhd, Mfro, Mp4a, Mvhd, Name, Nmhd, Pasp,
-    Pitm, Pixi, Prft, Pssh, Saio, Saiz, Sbgp, Schm, Sdtp, Senc, Sgpd, Sidx, Smhd, Srat, Ssix, Stco, Sthd, Stpp, Stsc,
-    Stsd, Stss, Stsz, Stts, Styp, Stz2, Subs, Tcmi, Tenc, Text, Tfdt, Tfhd, Tfra, Tkhd, Tref, Trex, Trun, Tx3g, Url,
-    Vmhd, Vp09, VpcC, VvcC, Wvtt,
+    Alac, Alis, AuxC, Av1C, Avc1, AvcC, Btrt, Chan, Chnl, Clap, Clli, Co64, Colr, Cslg, Ctts, DOps, Dac3, Data, Dec3,
+    DfLa, Dinf, Dref, DvcC, DvvC, Elng, Elst, Emsg, Enda, Esds, Fiel, Frma, Ftyp, Gmin, Hdlr, Hev1, Hmhd, HvcC, Iloc,
+    Imir, Infe, Iods, Ipma, Irot, Ispe, Keys, Kind, Leva, Mdcv, Mdhd, Mean, Mehd, Mfhd, Mfro, Mp4a, Mvhd, Name, Nmhd,
+    Pasp, Pitm, Pixi, Prft, Pssh, Saio, Saiz, Sbgp, Schm, Sdtp, Senc, Sgpd, Sidx, Smhd, Srat, Ssix, Stco, Sthd, Stpp,
+    Stsc, Stsd, Stss, Stsz, Stts, Styp, Stz2, Subs, Tcmi, Tenc, Text, Tfdt, Tfhd, Tfra, Tkhd, Tref, Trex, Trun, Tx3g,
+    Url, Urn, Vmhd, Vp09, VpcC, VvcC, Wvtt,
 )
 
 __all__ = [
-    "Alac", "AuxC", "Av1C", "Avc1", "AvcC", "Btrt", "Chan", "ChanMChannelDescriptions", "Chnl", "Clap", "Clli", "Co64",
-    "Colr", "Cslg", "Ctts", "DOps", "Dac3", "Data", "Dec3", "Dec3Substreams", "DfLa", "DfLaMetadataBlocks", "Dinf",
-    "Dref", "DvcC", "DvvC", "Elng", "Elst", "Emsg", "Enda", "Esds", "Fiel", "Frma", "Ftyp", "Gmin", "Hdlr", "Hev1",
-    "Hmhd", "HvcC", "HvcCArrays", "Iloc", "Imir", "Infe", "Iods", "Ipma", "IpmaEntries", "IpmaEntriesAssociations",
-    "Irot", "Ispe", "Keys", "KeysEntries", "Kind", "Leva", "Mdcv", "Mdhd", "Mean", "Mehd", "Mfhd", "Mfro", "Mp4a",
-    "Mvhd", "Name", "Nmhd", "Pasp", "Pitm", "Pixi", "Prft", "Pssh", "Saio", "Saiz", "Sbgp", "SbgpEntries", "Schm",
-    "Sdtp", "SdtpEntries", "Senc", "Sgpd", "SgpdEntries", "Sidx", "SidxReferences", "Smhd", "Srat", "Ssix",
-    "SsixSubsegments", "SsixSubsegmentsRanges", "Stco", "Sthd", "Stpp", "Stsc", "Stsd", "Stss", "Stsz", "Stts", "Styp",
-    "Stz2", "Subs", "SubsEntries", "SubsEntriesSubsamples", "Tcmi", "Tenc", "Text", "Tfdt", "Tfhd", "Tfra",
-    "TfraEntries", "Tkhd", "Tref", "TrefReferences", "Trex", "Trun", "Tx3g", "Url", "Vmhd", "Vp09", "VpcC", "VvcC",
-    "Wvtt",
+    "Alac", "Alis", "AuxC", "Av1C", "Avc1", "AvcC", "Btrt", "Chan", "ChanMChannelDescriptions", "Chnl", "Clap", "Clli",
+    "Co64", "Colr", "Cslg", "Ctts", "DOps", "Dac3", "Data", "Dec3", "Dec3Substreams", "DfLa", "DfLaMetadataBlocks",
+    "Dinf", "Dref", "DvcC", "DvvC", "Elng", "Elst", "Emsg", "Enda", "Esds", "Fiel", "Frma", "Ftyp", "Gmin", "Hdlr",
+    "Hev1", "Hmhd", "HvcC", "HvcCArrays", "Iloc", "Imir", "Infe", "Iods", "Ipma", "IpmaEntries",
+    "IpmaEntriesAssociations", "Irot", "Ispe", "Keys", "KeysEntries", "Kind", "Leva", "Mdcv", "Mdhd", "Mean", "Mehd",
+    "Mfhd", "Mfro", "Mp4a", "Mvhd", "Name", "Nmhd", "Pasp", "Pitm", "Pixi", "Prft", "Pssh", "Saio", "Saiz", "Sbgp",
+    "SbgpEntries", "Schm", "Sdtp", "SdtpEntries", "Senc", "Sgpd", "SgpdEntries", "Sidx", "SidxReferences", "Smhd",
+    "Srat", "Ssix", "SsixSubsegments", "SsixSubsegmentsRanges", "Stco", "Sthd", "Stpp", "Stsc", "Stsd", "Stss", "Stsz",
+    "Stts", "Styp", "Stz2", "Subs", "SubsEntries", "SubsEntriesSubsamples", "Tcmi", "Tenc", "Text", "Tfdt", "Tfhd",
+    "Tfra", "TfraEntries", "Tkhd", "Tref", "TrefReferences", "Trex", "Trun", "Tx3g", "Url", "Urn", "Vmhd", "Vp09",
+    "VpcC", "VvcC", "Wvtt",
 ]

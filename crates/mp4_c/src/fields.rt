@@ -10,9 +10,9 @@ use crate::front_box::front_known;
 use mp4_c_boxes::status::{OUT_OF_MEMORY, status_of};
 use mp4_c_boxes::to_rows::copy_rows;
 use mp4_extra::ExtraBox;
-use mp4_frame::codes::{HDLR, URL};
+use mp4_frame::codes::URL;
 use mp4_frame::{Frame, StreamBox};
-use mp4_show::{BoxFields, Result, json_text, put_fields, put_handler, put_reference};
+use mp4_show::{BoxFields, Result, json_text, put_fields, put_reference};
 use mp4_shown::FieldSink;
 use mp4_shown_json::JsonSink;
 use mp4_stream::{AnyBox, Either};
@@ -21,8 +21,8 @@ use std::alloc::Global;
 /// The status for a box of a type that isn't read. No error and no other status has this number.
 pub const UNKNOWN_BOX: u32 = 102;
 
-/// Puts the fields of `value` into `sink`. Those of an `hdlr` and of a `url ` are read from `content`, the code and the
-/// content of the box, since the codec keeps their texts only if they are UTF-8.
+/// Puts the fields of `value` into `sink`. Those of a `url ` are read from `content`, the code and the content of the
+/// box, since the codec keeps its text only if it is UTF-8.
 fn put_shown<B: BoxFields, K: FieldSink>(
     value: &B,
     content: Option<(u32, &[u8])>,
@@ -31,7 +31,6 @@ fn put_shown<B: BoxFields, K: FieldSink>(
     ensures whole { OnOk result (HandsMembers K.trace K.after sink.old sink.new) }
 {
     match content {
-        Some((HDLR, bytes)) if bytes.len() >= 25 => put_handler(bytes, sink),
         Some((URL, bytes)) if bytes.len() >= 4 => put_reference(bytes, sink),
         _ => put_fields(value, sink),
     }

@@ -1,9 +1,9 @@
 -- The content that is shown of a box shows whether the box can be read.
 use Rattle.std.proofs.Common.{◌≡◌, ℕ, ◌-◌, Bool, true, false, List, [], ◌∷◌, Result, None, Some, refl, ap, sym, ◌∙◌}
-use Rattle.std.proofs.Common.{leb, length, ltb}
+use Rattle.std.proofs.Common.{length, ltb}
 use Rattle.std.specs.Prelude.{if◌then◌else◌, is_err, not}
 use Rattle.std.specs.Str.{bytes_eq}
-use Rattle.std.proofs.lemmas.Bool.{le-ltb, leb-false, leb-true, lt-ltb}
+use Rattle.std.proofs.lemmas.Bool.{le-ltb, lt-ltb}
 use Rattle.std.proofs.lemmas.Slice.Eq.{bytes_eq-Decides}
 use Rattle.mp4_check.specs.Unreadable.{fails, is_refused, is_unreadable, unread_what, unreadable}
 use Rattle.mp4_check.specs.declared.fault.What.{What}
@@ -15,7 +15,6 @@ use Rattle.mp4_content.specs.declared.kind.Kind.{Kind}
 use Rattle.mp4_content.specs.declared.kind.Kind.TheVariants as kinds
 use Rattle.mp4_frame.specs.Reading.{Fault, Reading}
 use Rattle.mp4_frame.specs.declared.box_type.BoxType.{BoxType}
-use Rattle.mp4_frame.specs.declared.box_type.BoxType.TheVariants as names
 use Rattle.mp4_frame.specs.declared.error.Error.TheVariants as errors
 use Rattle.mp4_lemmas.proofs.Booleans.{by_bool}
 use Rattle.mp4_walk.specs.Source.{piece}
@@ -68,21 +67,6 @@ module _ {A : Type 0} (known : BoxType → Bool) (reading : BoxType → List ℕ
       rw yes (shows_is (leaf reading name (piece file x.position x.length) 0) content read shows))
       (λ no. let unread = rw no at h in rw (no, unread) refl)
 
-  handler_is : (content : Content A) → is_refused content ≡ false
-      → ShowsAs known reading file x kinds.Handler content
-      → is_faulty content ≡ is_unreadable known reading file x kinds.Handler
-  handler_is content read h =
-      by_bool (leb 25 (x.length - x.header_length))
-      (λ yes.
-      let shows = rw yes at h in
-      let enough = leb-true 25 (x.length - x.header_length) yes in
-      let no = le-ltb (x.length - x.header_length) 25 enough in
-      front_is kinds.Handler 25 0xFFFFFFFFFFFFFFFF file x content shows ∙ rw no refl)
-      (λ few.
-      let shows = rw few at h in
-      let less = lt-ltb (x.length - x.header_length) 25 (leb-false 25 (x.length - x.header_length) few) in
-      known_is names.HdlrBox content read shows ∙ rw less refl)
-
   pub faulty_is : (kind : Kind) (content : Content A) → is_refused content ≡ false
       → ShowsAs known reading file x kind content
       → is_faulty content ≡ is_unreadable known reading file x kind
@@ -92,7 +76,6 @@ module _ {A : Type 0} (known : BoxType → Bool) (reading : BoxType → List ℕ
   faulty_is kinds.Cut content read h = rw h refl
   faulty_is kinds.Small content read h = h
   faulty_is (kinds.Known name) content read h = known_is name content read h
-  faulty_is kinds.Handler content read h = handler_is content read h
   faulty_is kinds.Reference content read h = front_is kinds.Reference 4 0xFFFFFFFFFFFFFFFF file x content h
   faulty_is kinds.Full content read h = front_is kinds.Full 4 4 file x content h
   faulty_is kinds.List content read h = front_is kinds.List 8 8 file x content h

@@ -16,7 +16,6 @@ use Rattle.mp4_content.specs.declared.kind.Kind.{Kind}
 use Rattle.mp4_content.specs.declared.kind.Kind.TheVariants as kinds
 use Rattle.mp4_frame.specs.Reading.{Reading}
 use Rattle.mp4_frame.specs.declared.box_type.BoxType.{BoxType}
-use Rattle.mp4_frame.specs.declared.box_type.BoxType.TheVariants as names
 use Rattle.mp4_frame.specs.declared.error.Error.TheVariants as errors
 use Rattle.mp4_walk.specs.Source.{piece}
 use Rattle.mp4_walk.specs.declared.tree_box.BoxState.{BoxState}
@@ -47,7 +46,6 @@ is_unreadable known reading file x kinds.Unread = false
 is_unreadable known reading file x kinds.Cut = true
 is_unreadable known reading file x kinds.Small = true
 is_unreadable known reading file x (kinds.Known name) = fails known reading file x name
-is_unreadable known reading file x kinds.Handler = has_fewer x 25 && fails known reading file x names.HdlrBox
 is_unreadable known reading file x kinds.Reference = has_fewer x 4
 is_unreadable known reading file x kinds.Full = has_fewer x 4
 is_unreadable known reading file x kinds.List = has_fewer x 8

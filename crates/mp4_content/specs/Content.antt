@@ -1,10 +1,9 @@
 -- The content of a box that is shown, by how the box is read, and whether it has a fault.
-use Rattle.std.specs.Prelude.{◌≡◌, ◌≢◌, ℕ, ◌+◌, ◌-◌, ◌<◌, ◌≤◌, min, nat_le, Bool, true, false, List, [], ◌∷◌, length}
+use Rattle.std.specs.Prelude.{◌≡◌, ◌≢◌, ℕ, ◌+◌, ◌<◌, ◌≤◌, min, Bool, true, false, List, [], ◌∷◌, length}
 use Rattle.std.specs.Prelude.{Ok, MatchBool}
 use Rattle.mp4_frame.specs.Heads.{header, header_length}
 use Rattle.mp4_frame.specs.Reading.{Reading, Refuses, ◌>>=◌}
 use Rattle.mp4_frame.specs.declared.box_type.BoxType.{BoxType}
-use Rattle.mp4_frame.specs.declared.box_type.BoxType.TheVariants as names
 use Rattle.mp4_frame.specs.declared.error.Error.TheVariants as errors
 use Rattle.mp4_content.specs.declared.content.Content.{Content}
 use Rattle.mp4_content.specs.declared.content.Content.TheVariants as contents
@@ -57,8 +56,7 @@ ShowsEnd bytes found (contents.Faulty e) =
     (e ≡ errors.IoError) × (piece bytes found.position found.length ≢ 0 ∷ 0 ∷ 0 ∷ 0 ∷ [])
 ShowsEnd bytes found _ = ⊥
 
--- The content of a box that is shown, by how the box is read. A handler with at least one byte of its name, the 25th
--- byte, is shown from its bytes; the codec refuses others.
+-- The content of a box that is shown, by how the box is read.
 abbrev pub ShowsAs : {A : Type 0} → (BoxType → Bool) → (BoxType → List ℕ → ℕ → ℕ → Reading A) → List ℕ → TreeBox → Kind
     → Content A → Type 0
 ShowsAs known reading bytes found kinds.Boxes content = content ≡ contents.Boxes
@@ -67,10 +65,6 @@ ShowsAs known reading bytes found kinds.Unread content = content ≡ contents.Un
 ShowsAs known reading bytes found kinds.Cut content = content ≡ contents.Faulty errors.IoError
 ShowsAs known reading bytes found kinds.Small content = is_faulty content ≡ true
 ShowsAs known reading bytes found (kinds.Known name) content = ShowsKnown known reading name bytes found content
-ShowsAs known reading bytes found kinds.Handler content =
-    MatchBool (nat_le 25 (found.length - found.header_length))
-    (ShowsFront kinds.Handler 25 0xFFFFFFFFFFFFFFFF bytes found content)
-    (ShowsKnown known reading names.HdlrBox bytes found content)
 ShowsAs known reading bytes found kinds.Reference content =
     ShowsFront kinds.Reference 4 0xFFFFFFFFFFFFFFFF bytes found content
 ShowsAs known reading bytes found kinds.Full content = ShowsFront kinds.Full 4 4 bytes found content

@@ -34,11 +34,10 @@ is_another code s =
     if code == codes.TEXT then not (s.parent == codes.GMHD) else
     if (code == codes.MEAN) || (code == codes.TAG_NAME) then not (s.parent == codes.FREE_FORM) else false
 
--- a box that the walk does not enter is read whole, if its name is known; a handler and a data reference are read by
--- their bytes; an `mp4a` in a `wave` is not a sample entry
+-- a box that the walk does not enter is read whole, if its name is known; a data reference is read by its bytes; an
+-- `mp4a` in a `wave` is not a sample entry
 abbrev pub leaf_kind : (BoxType → Bool) → ℕ → Option Front → WalkContext → Kind
 leaf_kind known code front s =
-    if code == codes.HDLR then kinds.Handler else
     if code == codes.URL then kinds.Reference else
     if code == codes.UUID then kinds.Uuid else
     if (code == codes.MP4A) && (s.parent == codes.WAVE) then kinds.Unread else

@@ -12,8 +12,8 @@ use crate::kind::{Kind, kind_of};
 use crate::shown::Shown;
 use mp4_io::{Failure, or_read};
 use mp4_show::{
-    BoxFields, Result, put_entry, put_fields, put_full_head, put_handler, put_list_head,
-    put_reference, put_sound, put_terminator, put_usertype, put_visual,
+    BoxFields, Result, put_entry, put_fields, put_full_head, put_list_head, put_reference,
+    put_sound, put_terminator, put_usertype, put_visual,
 };
 use mp4_shown::FieldSink;
 use mp4_stream::{BoxHeader, BoxType, ByteCursor, Error};
@@ -151,24 +151,6 @@ fn front<B: Drop, S: Source>(
     Ok(Content::Front(kind, front_of(alloc, tree, found, most)?))
 }
 
-/// Reads a handler: its bytes if it has at least one byte of its name, and otherwise the fault that the codec finds.
-fn handler<B: Shown, S: Source>(
-    alloc: Global,
-    tree: &mut BoxWalk<S>,
-    found: &TreeBox,
-) -> std::result::Result<Content<B>, Failure>
-    ensures shows { IfSome tree.old.bytes
-        (λ bytes. IfOk result (λ content. ShowsAs B.known B.named_reading bytes found.now kinds.Handler content)) }
-    ensures kept { tree.new ≡ tree.old }
-    ensures not_write { is_write result ≡ false }
-{
-    if found.content_length() >= 25 {
-        front(alloc, tree, found, Kind::Handler, 25, u64::MAX)
-    } else {
-        known(alloc, tree, found, BoxType::HdlrBox)
-    }
-}
-
 /// Reads the last four bytes of a box that four zero bytes may end. Any other bytes are a cut header.
 fn terminator<B: Drop, S: Source>(
     alloc: Global,
@@ -206,7 +188,6 @@ pub fn content_of<B: Shown, S: Source>(
         Kind::Cut => Ok(Content::Faulty(Error::IoError)),
         Kind::Small => Ok(Content::Faulty(Error::InvalidData("box size too small"))),
         Kind::Known(name) => known(alloc, tree, found, name),
-        Kind::Handler => handler(alloc, tree, found),
         Kind::Reference => front(alloc, tree, found, Kind::Reference, 4, u64::MAX),
         Kind::Full => front(alloc, tree, found, Kind::Full, 4, 4),
         Kind::List => front(alloc, tree, found, Kind::List, 8, 8),
@@ -248,7 +229,6 @@ fn put_front<K: FieldSink>(kind: Kind, bytes: &[u8], is_quicktime: bool, sink: &
         Kind::Entry if bytes.len() >= 8 => put_entry(bytes, sink),
         Kind::Visual if bytes.len() >= 78 => put_visual(bytes, sink),
         Kind::Sound if bytes.len() >= 28 => put_sound_entry(bytes, is_quicktime, sink),
-        Kind::Handler if bytes.len() >= 25 => put_handler(bytes, sink),
         Kind::Terminator => put_terminator(sink),
         Kind::Reference if bytes.len() >= 4 => put_reference(bytes, sink),
         Kind::Uuid => match <[u8; 16]>::try_from(bytes) {

@@ -7,7 +7,7 @@ ghost use Rattle.mp4_content.specs.Kind.{kind_of};
 use crate::shown::Shown;
 use crate::terminator::may_end;
 use mp4_frame::codes::{
-    ALAC, DREF, FREE_FORM, GMHD, HDLR, MEAN, META, MP4A, STSD, TAG_NAME, TEXT, URL, UUID, WAVE,
+    ALAC, DREF, FREE_FORM, GMHD, MEAN, META, MP4A, STSD, TAG_NAME, TEXT, URL, UUID, WAVE,
 };
 use mp4_stream::BoxType;
 use mp4_walk::{BoxState, Front, TreeBox, WalkContext};
@@ -27,8 +27,6 @@ pub enum Kind {
     Small,
     /// Whole, as a box with this name.
     Known(BoxType),
-    /// As a handler, whose name may be counted as in QuickTime.
-    Handler,
     /// As a data reference, whose location may not be UTF-8.
     Reference,
     /// Version and flags.
@@ -81,9 +79,7 @@ fn leaf_kind<B: Shown>(code: u32, front: Option<Front>, context: WalkContext) ->
     ensures { result ≡ leaf_kind B.known code front context }
 {
     let name = BoxType::from(code);
-    if code == HDLR {
-        Kind::Handler
-    } else if code == URL {
+    if code == URL {
         Kind::Reference
     } else if code == UUID {
         Kind::Uuid

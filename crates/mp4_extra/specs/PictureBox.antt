@@ -11,6 +11,7 @@ use Rattle.mp4_extra.specs.declared.picture_box.PictureBox.TheVariants as boxes
 abbrev pub entry_of : PictureType → Entry PictureBox
 entry_of types.AuxcBox = entry codes.AUXC boxes.AuxcBox
 entry_of types.Av1cBox = entry codes.AV1C boxes.Av1cBox
+entry_of types.AvccBox = entry codes.AVCC boxes.AvccBox
 entry_of types.BtrtBox = entry codes.BTRT boxes.BtrtBox
 entry_of types.ClapBox = entry codes.CLAP boxes.ClapBox
 entry_of types.ClliBox = entry codes.CLLI boxes.ClliBox
@@ -25,6 +26,7 @@ entry_of types.IspeBox = entry codes.ISPE boxes.IspeBox
 entry_of types.MdcvBox = entry codes.MDCV boxes.MdcvBox
 entry_of types.PaspBox = entry codes.PASP boxes.PaspBox
 entry_of types.PixiBox = entry codes.PIXI boxes.PixiBox
+entry_of types.VpccBox = entry codes.VPCC boxes.VpccBox
 entry_of types.VvccBox = entry codes.VVCC boxes.VvccBox
 
 -- the type of the boxes of a code
@@ -35,6 +37,7 @@ picture_of_code code = type_among entry_of TYPES.now code
 abbrev pub opened : PictureBox → (t : PictureType) × (entry_of t).Fields
 opened (boxes.AuxcBox fields) = (types.AuxcBox, fields)
 opened (boxes.Av1cBox fields) = (types.Av1cBox, fields)
+opened (boxes.AvccBox fields) = (types.AvccBox, fields)
 opened (boxes.BtrtBox fields) = (types.BtrtBox, fields)
 opened (boxes.ClapBox fields) = (types.ClapBox, fields)
 opened (boxes.ClliBox fields) = (types.ClliBox, fields)
@@ -49,6 +52,7 @@ opened (boxes.IspeBox fields) = (types.IspeBox, fields)
 opened (boxes.MdcvBox fields) = (types.MdcvBox, fields)
 opened (boxes.PaspBox fields) = (types.PaspBox, fields)
 opened (boxes.PixiBox fields) = (types.PixiBox, fields)
+opened (boxes.VpccBox fields) = (types.VpccBox, fields)
 opened (boxes.VvccBox fields) = (types.VvccBox, fields)
 
 abbrev pub picture_types : Catalogue PictureType PictureBox

@@ -9,9 +9,11 @@ use Rattle.mp4_extra.specs.declared.track_box.TrackBox.{TrackBox}
 use Rattle.mp4_extra.specs.declared.track_box.TrackBox.TheVariants as boxes
 
 abbrev pub entry_of : TrackType → Entry TrackBox
+entry_of types.AlisBox = entry codes.ALIS boxes.AlisBox
 entry_of types.DataBox = entry codes.DATA boxes.DataBox
 entry_of types.ElngBox = entry codes.ELNG boxes.ElngBox
 entry_of types.FrmaBox = entry codes.FRMA boxes.FrmaBox
+entry_of types.HdlrBox = entry codes.HDLR boxes.HdlrBox
 entry_of types.IlocBox = entry codes.ILOC boxes.IlocBox
 entry_of types.InfeBox = entry codes.INFE boxes.InfeBox
 entry_of types.IodsBox = entry codes.IODS boxes.IodsBox
@@ -25,6 +27,7 @@ entry_of types.PsshBox = entry codes.PSSH boxes.PsshBox
 entry_of types.SchmBox = entry codes.SCHM boxes.SchmBox
 entry_of types.TencBox = entry codes.TENC boxes.TencBox
 entry_of types.TrefBox = entry codes.TREF boxes.TrefBox
+entry_of types.UrnBox = entry codes.URN boxes.UrnBox
 
 -- the type of the boxes of a code
 unfoldable pub track_of_code : ℕ → Option TrackType
@@ -32,9 +35,11 @@ track_of_code code = type_among entry_of TYPES.now code
 
 -- the type of a box and its fields
 abbrev pub opened : TrackBox → (t : TrackType) × (entry_of t).Fields
+opened (boxes.AlisBox fields) = (types.AlisBox, fields)
 opened (boxes.DataBox fields) = (types.DataBox, fields)
 opened (boxes.ElngBox fields) = (types.ElngBox, fields)
 opened (boxes.FrmaBox fields) = (types.FrmaBox, fields)
+opened (boxes.HdlrBox fields) = (types.HdlrBox, fields)
 opened (boxes.IlocBox fields) = (types.IlocBox, fields)
 opened (boxes.InfeBox fields) = (types.InfeBox, fields)
 opened (boxes.IodsBox fields) = (types.IodsBox, fields)
@@ -48,6 +53,7 @@ opened (boxes.PsshBox fields) = (types.PsshBox, fields)
 opened (boxes.SchmBox fields) = (types.SchmBox, fields)
 opened (boxes.TencBox fields) = (types.TencBox, fields)
 opened (boxes.TrefBox fields) = (types.TrefBox, fields)
+opened (boxes.UrnBox fields) = (types.UrnBox, fields)
 
 abbrev pub track_types : Catalogue TrackType TrackBox
 track_types = record { entry_of = entry_of; of_code = track_of_code; opened = opened }

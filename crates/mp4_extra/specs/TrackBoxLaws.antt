@@ -9,16 +9,16 @@ use Rattle.mp4_extra.specs.declared.track_box.TrackBox.{TrackBox}
 use Rattle.mp4_extra.specs.declared.track_box.TrackBox.TheVariants as boxes
 
 reopened : (v : TrackBox) → (entry_of (opened v).0).wrap (opened v).1 ≡ v
-reopened (boxes.DataBox fields) = refl
+reopened (boxes.AlisBox fields) = refl
 reopened _ = refl
 
 is_opened : (t : TrackType) (x : (entry_of t).Fields) → opened ((entry_of t).wrap x) ≡ (t, x)
-is_opened types.DataBox x = refl
+is_opened types.AlisBox x = refl
 is_opened _ x = refl
 
 type_found : (t : TrackType) → track_of_code (entry_of t).code ≡ Some t
 unfolding track_of_code
-type_found types.DataBox = refl
+type_found types.AlisBox = refl
 type_found _ = refl
 
 code_found : (code : ℕ) (t : TrackType) → track_of_code code ≡ Some t → code ≡ (entry_of t).code

@@ -29,6 +29,7 @@ macro_rules! of_boxes {
             [
                 Auxc AuxcBox AUXC,
                 Av1c Av1cBox AV1C,
+                Avcc AvccBox AVCC,
                 Btrt BtrtBox BTRT,
                 Clap ClapBox CLAP,
                 Clli ClliBox CLLI,
@@ -43,6 +44,7 @@ macro_rules! of_boxes {
                 Mdcv MdcvBox MDCV,
                 Pasp PaspBox PASP,
                 Pixi PixiBox PIXI,
+                Vpcc VpccBox VPCC,
                 Vvcc VvccBox VVCC
             ]
             $($rest)*
@@ -55,6 +57,7 @@ macro_rules! of_boxes {
 pub enum PictureBox {
     AuxcBox(AuxcBox),
     Av1cBox(Av1cBox),
+    AvccBox(AvccBox),
     BtrtBox(BtrtBox),
     ClapBox(ClapBox),
     ClliBox(ClliBox),
@@ -69,6 +72,7 @@ pub enum PictureBox {
     MdcvBox(MdcvBox),
     PaspBox(PaspBox),
     PixiBox(PixiBox),
+    VpccBox(VpccBox),
     VvccBox(VvccBox),
 }
 
@@ -77,6 +81,7 @@ pub enum PictureBox {
 pub enum PictureType {
     AuxcBox,
     Av1cBox,
+    AvccBox,
     BtrtBox,
     ClapBox,
     ClliBox,
@@ -91,6 +96,7 @@ pub enum PictureType {
     MdcvBox,
     PaspBox,
     PixiBox,
+    VpccBox,
     VvccBox,
 }
 
@@ -126,6 +132,7 @@ impl PictureDeclarations for PictureBox {
     ghost declared = { elim [
       | types.AuxcBox ↦ valid_as ⟦<Auxc as Described>⟧.declaration refl
       | types.Av1cBox ↦ valid_as ⟦<Av1c as Described>⟧.declaration refl
+      | types.AvccBox ↦ valid_as ⟦<Avcc as Described>⟧.declaration refl
       | types.BtrtBox ↦ valid_as ⟦<Btrt as Described>⟧.declaration refl
       | types.ClapBox ↦ valid_as ⟦<Clap as Described>⟧.declaration refl
       | types.ClliBox ↦ valid_as ⟦<Clli as Described>⟧.declaration refl
@@ -140,6 +147,7 @@ impl PictureDeclarations for PictureBox {
       | types.MdcvBox ↦ valid_as ⟦<Mdcv as Described>⟧.declaration refl
       | types.PaspBox ↦ valid_as ⟦<Pasp as Described>⟧.declaration refl
       | types.PixiBox ↦ valid_as ⟦<Pixi as Described>⟧.declaration refl
+      | types.VpccBox ↦ valid_as ⟦<Vpcc as Described>⟧.declaration refl
       | types.VvccBox ↦ valid_as ⟦<Vvcc as Described>⟧.declaration refl
     ] };
 }
@@ -211,6 +219,14 @@ impl Holds<Av1cBox> for PictureBox {
 
     fn wrap(value: Av1cBox) -> PictureBox {
         PictureBox::Av1cBox(value)
+    }
+}
+
+impl Holds<AvccBox> for PictureBox {
+    ghost wrapped = { boxes.AvccBox };
+
+    fn wrap(value: AvccBox) -> PictureBox {
+        PictureBox::AvccBox(value)
     }
 }
 
@@ -323,6 +339,14 @@ impl Holds<PixiBox> for PictureBox {
 
     fn wrap(value: PixiBox) -> PictureBox {
         PictureBox::PixiBox(value)
+    }
+}
+
+impl Holds<VpccBox> for PictureBox {
+    ghost wrapped = { boxes.VpccBox };
+
+    fn wrap(value: VpccBox) -> PictureBox {
+        PictureBox::VpccBox(value)
     }
 }
 

@@ -27,9 +27,11 @@ macro_rules! of_boxes {
     ($go:ident, $($rest:tt)*) => {
         $go! {
             [
+                Alis AlisBox ALIS,
                 Data DataBox DATA,
                 Elng ElngBox ELNG,
                 Frma FrmaBox FRMA,
+                Hdlr HdlrBox HDLR,
                 Iloc IlocBox ILOC,
                 Infe InfeBox INFE,
                 Iods IodsBox IODS,
@@ -42,7 +44,8 @@ macro_rules! of_boxes {
                 Pssh PsshBox PSSH,
                 Schm SchmBox SCHM,
                 Tenc TencBox TENC,
-                Tref TrefBox TREF
+                Tref TrefBox TREF,
+                Urn UrnBox URN
             ]
             $($rest)*
         }
@@ -52,9 +55,11 @@ macro_rules! of_boxes {
 /// A box of tracks, their protection, items and metadata.
 #[derive(Drop, PartialEq, Eq)]
 pub enum TrackBox {
+    AlisBox(AlisBox),
     DataBox(DataBox),
     ElngBox(ElngBox),
     FrmaBox(FrmaBox),
+    HdlrBox(HdlrBox),
     IlocBox(IlocBox),
     InfeBox(InfeBox),
     IodsBox(IodsBox),
@@ -68,14 +73,17 @@ pub enum TrackBox {
     SchmBox(SchmBox),
     TencBox(TencBox),
     TrefBox(TrefBox),
+    UrnBox(UrnBox),
 }
 
 /// A type of boxes that a `TrackBox` holds.
 #[derive(Clone, Copy)]
 pub enum TrackType {
+    AlisBox,
     DataBox,
     ElngBox,
     FrmaBox,
+    HdlrBox,
     IlocBox,
     InfeBox,
     IodsBox,
@@ -89,6 +97,7 @@ pub enum TrackType {
     SchmBox,
     TencBox,
     TrefBox,
+    UrnBox,
 }
 
 /// For the prover: all types.
@@ -121,9 +130,11 @@ pub(crate) trait TrackDeclarations {
 
 impl TrackDeclarations for TrackBox {
     ghost declared = { elim [
+      | types.AlisBox ↦ valid_as ⟦<Alis as Described>⟧.declaration refl
       | types.DataBox ↦ valid_as ⟦<Data as Described>⟧.declaration refl
       | types.ElngBox ↦ valid_as ⟦<Elng as Described>⟧.declaration refl
       | types.FrmaBox ↦ valid_as ⟦<Frma as Described>⟧.declaration refl
+      | types.HdlrBox ↦ valid_as ⟦<Hdlr as Described>⟧.declaration refl
       | types.IlocBox ↦ valid_as ⟦<Iloc as Described>⟧.declaration refl
       | types.InfeBox ↦ valid_as ⟦<Infe as Described>⟧.declaration refl
       | types.IodsBox ↦ valid_as ⟦<Iods as Described>⟧.declaration refl
@@ -137,6 +148,7 @@ impl TrackDeclarations for TrackBox {
       | types.SchmBox ↦ valid_as ⟦<Schm as Described>⟧.declaration refl
       | types.TencBox ↦ valid_as ⟦<Tenc as Described>⟧.declaration refl
       | types.TrefBox ↦ valid_as ⟦<Tref as Described>⟧.declaration refl
+      | types.UrnBox ↦ valid_as ⟦<Urn as Described>⟧.declaration refl
     ] };
 }
 
@@ -194,6 +206,14 @@ impl HasFields for TrackBox {
     }
 }
 
+impl Holds<AlisBox> for TrackBox {
+    ghost wrapped = { boxes.AlisBox };
+
+    fn wrap(value: AlisBox) -> TrackBox {
+        TrackBox::AlisBox(value)
+    }
+}
+
 impl Holds<DataBox> for TrackBox {
     ghost wrapped = { boxes.DataBox };
 
@@ -215,6 +235,14 @@ impl Holds<FrmaBox> for TrackBox {
 
     fn wrap(value: FrmaBox) -> TrackBox {
         TrackBox::FrmaBox(value)
+    }
+}
+
+impl Holds<HdlrBox> for TrackBox {
+    ghost wrapped = { boxes.HdlrBox };
+
+    fn wrap(value: HdlrBox) -> TrackBox {
+        TrackBox::HdlrBox(value)
     }
 }
 
@@ -319,5 +347,13 @@ impl Holds<TrefBox> for TrackBox {
 
     fn wrap(value: TrefBox) -> TrackBox {
         TrackBox::TrefBox(value)
+    }
+}
+
+impl Holds<UrnBox> for TrackBox {
+    ghost wrapped = { boxes.UrnBox };
+
+    fn wrap(value: UrnBox) -> TrackBox {
+        TrackBox::UrnBox(value)
     }
 }

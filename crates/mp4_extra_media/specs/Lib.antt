@@ -3,3 +3,12 @@ pub mod ShownChannels
 pub mod ShownColour
 pub mod ShownMapping
 pub mod ShownStreams
+pub mod Counted
+pub mod CountedLaws
+pub mod Dependent
+pub mod DependentLaws
+pub mod Tail
+pub mod TailLaws
+pub mod ShownTail
+pub mod AvcProfile
+pub mod AvcLeast

@@ -2,9 +2,11 @@
 //! type is declared by its shape, in a file of its name. `mp4_extra` exports them all.
 #![tactic(auto)]
 
+pub mod alis;
 pub mod data;
 pub mod elng;
 pub mod frma;
+pub mod hdlr;
 pub mod hmhd;
 pub mod iloc;
 pub mod infe;
@@ -29,3 +31,4 @@ pub mod styp;
 pub mod tenc;
 pub mod tfra;
 pub mod tref;
+pub mod urn;

@@ -1,9 +1,8 @@
 -- The fields that are read from the bytes of a box, as rows have them: a line for each.
-use Rattle.std.specs.Prelude.{ℕ, List, [], ◌∷◌, drop, slice_range}
+use Rattle.std.specs.Prelude.{ℕ, List, [], ◌∷◌, slice_range}
 use Rattle.mp4_frame.specs.Bytes.{number as uint}
-use Rattle.mp4_frame.specs.FourCC.{four_cc_of}
-use Rattle.mp4_show.specs.Fronts.{compressor, handler_name, location}
-use Rattle.mp4_show.specs.Row.{Part, number, code, text}
+use Rattle.mp4_show.specs.Fronts.{compressor, location}
+use Rattle.mp4_show.specs.Row.{Part, number, text}
 
 -- version and flags
 abbrev pub head_row : List ℕ → List Part
@@ -37,14 +36,6 @@ visual_row xs =
     ∷ number (uint xs 40 2)
     ∷ text (compressor (slice_range xs 42 74))
     ∷ number (uint xs 74 2)
-    ∷ []
-
-abbrev pub handler_row : List ℕ → List Part
-handler_row xs =
-    number (uint xs 0 1)
-    ∷ number (uint xs 1 3)
-    ∷ code (four_cc_of (uint xs 8 4))
-    ∷ text (handler_name (drop 24 xs))
     ∷ []
 
 abbrev pub reference_row : List ℕ → List Part

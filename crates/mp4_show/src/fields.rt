@@ -20,7 +20,6 @@ use mp4_stream::{
     SmhdBox, StcoBox, StscBox, StsdBox, StssBox, StszBox, SttsBox, TfdtBox, TfhdBox, TkhdBox,
     TrexBox, TrunBox, Tx3gBox, UrlBox, VmhdBox, Vp09Box, VpccBox,
 };
-pub(crate) use tracks::HDLR;
 
 /// A box is shown as the box inside.
 impl BoxFields for AnyBox {

@@ -1,23 +1,20 @@
 //! Fields that are read from bytes: those that begin a box that holds boxes, those of sample entries of any code, and
-//! those of a handler and of a reference, with their texts as they are.
+//! those of a reference, with its text as it is.
 
-ghost use Rattle.std.specs.Prelude.{◌≡◌, ◌≤◌, ◌∷◌, [], OnOk, drop, length, slice_range};
-ghost use Rattle.mp4_show.specs.FrontRows.{entry_row, handler_row, head_row, list_row, reference_row, visual_row};
-ghost use Rattle.mp4_show.specs.Fronts.{compressor, handler_name, location};
+ghost use Rattle.std.specs.Prelude.{◌≡◌, ◌≤◌, ◌∷◌, [], OnOk, length, slice_range};
+ghost use Rattle.mp4_show.specs.FrontRows.{entry_row, head_row, list_row, reference_row, visual_row};
+ghost use Rattle.mp4_show.specs.Fronts.{compressor, location};
 ghost use Rattle.mp4_show.specs.Row.{number, shown_row, text as as_text};
 ghost use Rattle.mp4_show.specs.declared.fields.media.TheConstants.{URL};
-ghost use Rattle.mp4_show.specs.declared.fields.tracks.TheConstants.{HDLR};
 ghost use Rattle.mp4_show.specs.declared.fronts.TheConstants.{ENTRY, LIST, TERMINATOR, USERTYPE, VISUAL};
 ghost use Rattle.mp4_show.specs.declared.row.TheConstants.{FULL};
 ghost use Rattle.mp4_shown.specs.Hands.{Hands};
 ghost use Rattle.mp4_shown.specs.Members.{HandsMembers};
-ghost use Rattle.mp4_shown.specs.Runs.{unended};
 
-use crate::fields::{HDLR, URL};
+use crate::fields::URL;
 use crate::row::{FULL, Part, field, put_members};
 use mp4_frame::{u8_at, u16_at, u24_at, u32_at};
 use mp4_shown::{FLAGS, FieldSink, NumberName, Result, VERSION, number};
-use mp4_stream::FourCC;
 
 /// Hands version and flags to a sink (ISO/IEC 14496-12, 4.2). They are the first 4 bytes of the content of a full box.
 pub fn put_full_head<K: FieldSink>(bytes: &[u8], sink: &mut K) -> Result<()>
@@ -108,60 +105,6 @@ pub fn put_visual<K: FieldSink>(bytes: &[u8], sink: &mut K) -> Result<()>
         Part::U16(u16_at(bytes, 74)),
     ];
     put_members(VISUAL, &parts, sink)
-}
-
-/// Returns `bytes` without a last byte of 0.
-fn unended(bytes: &[u8]) -> &[u8]
-    ensures { result.now ≡ unended bytes.now }
-{
-    if !bytes.is_empty() && bytes[bytes.len() - 1] == 0 {
-        &bytes[..bytes.len() - 1]
-    } else {
-        bytes
-    }
-}
-
-/// Returns the name of a handler, in bytes that go to the end of its box: up to the last byte, which ends it. If the
-/// first byte is the number of those after it, with or without a byte of 0 that ends them, it is QuickTime's count, and
-/// the name is between these two.
-#[tactic(auto, unfolding(crate::specs::Fronts::handler_name))]
-fn handler_name(bytes: &[u8]) -> &[u8]
-    requires { 1 ≤ length bytes.now }
-    ensures { result.now ≡ handler_name bytes.now }
-{
-    let rest = &bytes[1..];
-    let text = unended(rest);
-    let count = bytes[0] as usize;
-    if count == rest.len() || count == text.len() {
-        text
-    } else {
-        &bytes[..bytes.len() - 1]
-    }
-}
-
-/// Returns the name in the content of a handler.
-fn name_of(bytes: &[u8]) -> &[u8]
-    requires { 25 ≤ length bytes.now }
-    ensures { result.now ≡ handler_name (drop 24 bytes.now) }
-{
-    handler_name(&bytes[24..])
-}
-
-/// Hands the fields of a handler to a sink (ISO/IEC 14496-12, 8.4.3; QuickTime File Format, "Handler reference atoms"),
-/// of which these bytes are the content.
-pub fn put_handler<K: FieldSink>(bytes: &[u8], sink: &mut K) -> Result<()>
-    requires { 25 ≤ length bytes.now }
-    ensures fields { OnOk result (Hands K.trace K.after sink.old
-        (shown_row HDLR.now (handler_row bytes.now)) sink.new) }
-    ensures whole { OnOk result (HandsMembers K.trace K.after sink.old sink.new) }
-{
-    let parts = [
-        Part::U8(u8_at(bytes, 0)),
-        Part::U32(u24_at(bytes, 1)),
-        Part::Code(FourCC::from(u32_at(bytes, 8))),
-        Part::Text(name_of(bytes)),
-    ];
-    put_members(HDLR, &parts, sink)
 }
 
 /// Returns the location in the content of a `url `: the bytes after version and flags, up to the last byte, which ends

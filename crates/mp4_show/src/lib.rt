@@ -25,8 +25,8 @@ pub use code::push_code;
 pub use escape::{is_escaped, push_escaped};
 pub use escaped_json::json_text;
 pub use fronts::{
-    put_entry, put_full_head, put_handler, put_list_head, put_reference, put_terminator,
-    put_usertype, put_visual,
+    put_entry, put_full_head, put_list_head, put_reference, put_terminator, put_usertype,
+    put_visual,
 };
 pub use look::Look;
 pub use mp4_shown::{Result, Value};

@@ -87,7 +87,7 @@ impl BoxFields for MdhdBox {
 }
 
 /// The fields of a handler reference (ISO/IEC 14496-12, 8.4.3).
-pub(crate) const HDLR: &[NumberName] = &[VERSION, FLAGS, field!("handler_type"), field!("name")];
+const HDLR: &[NumberName] = &[VERSION, FLAGS, field!("handler_type"), field!("name")];
 
 impl BoxFields for HdlrBox {
     ghost shown = { λ view b. shown_row HDLR.now (hdlr_row b) };

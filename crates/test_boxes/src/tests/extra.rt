@@ -1,6 +1,7 @@
 //! Tests of values that cannot be written: a number does not fit its field, or a part belongs to another version or
 //! flag. Such values cannot be read from bytes, so a row (bytes with the expected result) cannot cover them.
 
+mod configurations;
 mod items;
 mod lists;
 mod numbers;

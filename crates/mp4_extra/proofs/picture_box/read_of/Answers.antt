@@ -15,6 +15,11 @@ returns-in-Av1cBox-clause-answer c =
     same_reading picture_types ghosts.declared c.args.of types.Av1cBox _ c.args.reader.now.bytes.now
     (c.args.reader.now.position - 8) c.args.size c.in-Av1cBox.is c.read_declared-in-Av1cBox.ensures.answer
 
+pub returns-in-AvccBox-clause-answer : goal.returns-in-AvccBox-clause-answer
+returns-in-AvccBox-clause-answer c =
+    same_reading picture_types ghosts.declared c.args.of types.AvccBox _ c.args.reader.now.bytes.now
+    (c.args.reader.now.position - 8) c.args.size c.in-AvccBox.is c.read_declared-in-AvccBox.ensures.answer
+
 pub returns-in-BtrtBox-clause-answer : goal.returns-in-BtrtBox-clause-answer
 returns-in-BtrtBox-clause-answer c =
     same_reading picture_types ghosts.declared c.args.of types.BtrtBox _ c.args.reader.now.bytes.now
@@ -84,6 +89,11 @@ pub returns-in-PixiBox-clause-answer : goal.returns-in-PixiBox-clause-answer
 returns-in-PixiBox-clause-answer c =
     same_reading picture_types ghosts.declared c.args.of types.PixiBox _ c.args.reader.now.bytes.now
     (c.args.reader.now.position - 8) c.args.size c.in-PixiBox.is c.read_declared-in-PixiBox.ensures.answer
+
+pub returns-in-VpccBox-clause-answer : goal.returns-in-VpccBox-clause-answer
+returns-in-VpccBox-clause-answer c =
+    same_reading picture_types ghosts.declared c.args.of types.VpccBox _ c.args.reader.now.bytes.now
+    (c.args.reader.now.position - 8) c.args.size c.in-VpccBox.is c.read_declared-in-VpccBox.ensures.answer
 
 pub returns-in-VvccBox-clause-answer : goal.returns-in-VvccBox-clause-answer
 returns-in-VvccBox-clause-answer c =

@@ -5,10 +5,15 @@ use Rattle.mp4_extra.specs.contracts.track_box.TrackBoxTrackDeclarations.TheImpl
 use Rattle.mp4_extra.specs.declared.track_box.TrackType.TheVariants as types
 use Rattle.mp4_extra.proofs.track_box.read_of.Goals as goal
 
+pub returns-in-AlisBox-clause-answer : goal.returns-in-AlisBox-clause-answer
+returns-in-AlisBox-clause-answer c =
+    same_reading track_types ghosts.declared c.args.of types.AlisBox _ c.args.reader.now.bytes.now
+    (c.args.reader.now.position - 8) c.args.size c.in-AlisBox.is c.read_declared.ensures.answer
+
 pub returns-in-DataBox-clause-answer : goal.returns-in-DataBox-clause-answer
 returns-in-DataBox-clause-answer c =
     same_reading track_types ghosts.declared c.args.of types.DataBox _ c.args.reader.now.bytes.now
-    (c.args.reader.now.position - 8) c.args.size c.in-DataBox.is c.read_declared.ensures.answer
+    (c.args.reader.now.position - 8) c.args.size c.in-DataBox.is c.read_declared-in-DataBox.ensures.answer
 
 pub returns-in-ElngBox-clause-answer : goal.returns-in-ElngBox-clause-answer
 returns-in-ElngBox-clause-answer c =
@@ -19,6 +24,11 @@ pub returns-in-FrmaBox-clause-answer : goal.returns-in-FrmaBox-clause-answer
 returns-in-FrmaBox-clause-answer c =
     same_reading track_types ghosts.declared c.args.of types.FrmaBox _ c.args.reader.now.bytes.now
     (c.args.reader.now.position - 8) c.args.size c.in-FrmaBox.is c.read_declared-in-FrmaBox.ensures.answer
+
+pub returns-in-HdlrBox-clause-answer : goal.returns-in-HdlrBox-clause-answer
+returns-in-HdlrBox-clause-answer c =
+    same_reading track_types ghosts.declared c.args.of types.HdlrBox _ c.args.reader.now.bytes.now
+    (c.args.reader.now.position - 8) c.args.size c.in-HdlrBox.is c.read_declared-in-HdlrBox.ensures.answer
 
 pub returns-in-IlocBox-clause-answer : goal.returns-in-IlocBox-clause-answer
 returns-in-IlocBox-clause-answer c =
@@ -84,3 +94,8 @@ pub returns-in-TrefBox-clause-answer : goal.returns-in-TrefBox-clause-answer
 returns-in-TrefBox-clause-answer c =
     same_reading track_types ghosts.declared c.args.of types.TrefBox _ c.args.reader.now.bytes.now
     (c.args.reader.now.position - 8) c.args.size c.in-TrefBox.is c.read_declared-in-TrefBox.ensures.answer
+
+pub returns-in-UrnBox-clause-answer : goal.returns-in-UrnBox-clause-answer
+returns-in-UrnBox-clause-answer c =
+    same_reading track_types ghosts.declared c.args.of types.UrnBox _ c.args.reader.now.bytes.now
+    (c.args.reader.now.position - 8) c.args.size c.in-UrnBox.is c.read_declared-in-UrnBox.ensures.answer

@@ -12,6 +12,12 @@ visit_declared-requires-in-Av1cBox g c = rw c.in-Av1cBox.is at c.requires
 pub returns-in-Av1cBox : goal.returns-in-Av1cBox
 returns-in-Av1cBox g c = rw c.in-Av1cBox.is c.visit_declared-in-Av1cBox.ensures
 
+pub visit_declared-requires-in-AvccBox : goal.visit_declared-requires-in-AvccBox
+visit_declared-requires-in-AvccBox g c = rw c.in-AvccBox.is at c.requires
+
+pub returns-in-AvccBox : goal.returns-in-AvccBox
+returns-in-AvccBox g c = rw c.in-AvccBox.is c.visit_declared-in-AvccBox.ensures
+
 pub visit_declared-requires-in-BtrtBox : goal.visit_declared-requires-in-BtrtBox
 visit_declared-requires-in-BtrtBox g c = rw c.in-BtrtBox.is at c.requires
 
@@ -95,6 +101,12 @@ visit_declared-requires-in-PixiBox g c = rw c.in-PixiBox.is at c.requires
 
 pub returns-in-PixiBox : goal.returns-in-PixiBox
 returns-in-PixiBox g c = rw c.in-PixiBox.is c.visit_declared-in-PixiBox.ensures
+
+pub visit_declared-requires-in-VpccBox : goal.visit_declared-requires-in-VpccBox
+visit_declared-requires-in-VpccBox g c = rw c.in-VpccBox.is at c.requires
+
+pub returns-in-VpccBox : goal.returns-in-VpccBox
+returns-in-VpccBox g c = rw c.in-VpccBox.is c.visit_declared-in-VpccBox.ensures
 
 pub visit_declared-requires-in-VvccBox : goal.visit_declared-requires-in-VvccBox
 visit_declared-requires-in-VvccBox g c = rw c.in-VvccBox.is at c.requires

@@ -13,6 +13,11 @@ returns-in-Av1cBox g c =
     same_events picture_types ghosts.declared g.K.FieldSink.trace g.K.FieldSink.after c.show-in-Av1cBox.result
     c.args.sink.now c.show-in-Av1cBox.new.sink c.args.view c.args.self.now _ c.in-Av1cBox.is c.show-in-Av1cBox.ensures
 
+pub returns-in-AvccBox : goal.returns-in-AvccBox
+returns-in-AvccBox g c =
+    same_events picture_types ghosts.declared g.K.FieldSink.trace g.K.FieldSink.after c.show-in-AvccBox.result
+    c.args.sink.now c.show-in-AvccBox.new.sink c.args.view c.args.self.now _ c.in-AvccBox.is c.show-in-AvccBox.ensures
+
 pub returns-in-BtrtBox : goal.returns-in-BtrtBox
 returns-in-BtrtBox g c =
     same_events picture_types ghosts.declared g.K.FieldSink.trace g.K.FieldSink.after c.show-in-BtrtBox.result
@@ -82,6 +87,11 @@ pub returns-in-PixiBox : goal.returns-in-PixiBox
 returns-in-PixiBox g c =
     same_events picture_types ghosts.declared g.K.FieldSink.trace g.K.FieldSink.after c.show-in-PixiBox.result
     c.args.sink.now c.show-in-PixiBox.new.sink c.args.view c.args.self.now _ c.in-PixiBox.is c.show-in-PixiBox.ensures
+
+pub returns-in-VpccBox : goal.returns-in-VpccBox
+returns-in-VpccBox g c =
+    same_events picture_types ghosts.declared g.K.FieldSink.trace g.K.FieldSink.after c.show-in-VpccBox.result
+    c.args.sink.now c.show-in-VpccBox.new.sink c.args.view c.args.self.now _ c.in-VpccBox.is c.show-in-VpccBox.ensures
 
 pub returns-in-VvccBox : goal.returns-in-VvccBox
 returns-in-VvccBox g c =

@@ -1,10 +1,16 @@
 use Rattle.mp4_extra.proofs.track_box.TrackBoxBoxEnum.visit.Goals as goal
 
 pub visit_declared-requires : goal.visit_declared-requires
-visit_declared-requires g c = rw c.in-DataBox.is at c.requires
+visit_declared-requires g c = rw c.in-AlisBox.is at c.requires
+
+pub returns-in-AlisBox : goal.returns-in-AlisBox
+returns-in-AlisBox g c = rw c.in-AlisBox.is c.visit_declared.ensures
+
+pub visit_declared-requires-in-DataBox : goal.visit_declared-requires-in-DataBox
+visit_declared-requires-in-DataBox g c = rw c.in-DataBox.is at c.requires
 
 pub returns-in-DataBox : goal.returns-in-DataBox
-returns-in-DataBox g c = rw c.in-DataBox.is c.visit_declared.ensures
+returns-in-DataBox g c = rw c.in-DataBox.is c.visit_declared-in-DataBox.ensures
 
 pub visit_declared-requires-in-ElngBox : goal.visit_declared-requires-in-ElngBox
 visit_declared-requires-in-ElngBox g c = rw c.in-ElngBox.is at c.requires
@@ -17,6 +23,12 @@ visit_declared-requires-in-FrmaBox g c = rw c.in-FrmaBox.is at c.requires
 
 pub returns-in-FrmaBox : goal.returns-in-FrmaBox
 returns-in-FrmaBox g c = rw c.in-FrmaBox.is c.visit_declared-in-FrmaBox.ensures
+
+pub visit_declared-requires-in-HdlrBox : goal.visit_declared-requires-in-HdlrBox
+visit_declared-requires-in-HdlrBox g c = rw c.in-HdlrBox.is at c.requires
+
+pub returns-in-HdlrBox : goal.returns-in-HdlrBox
+returns-in-HdlrBox g c = rw c.in-HdlrBox.is c.visit_declared-in-HdlrBox.ensures
 
 pub visit_declared-requires-in-IlocBox : goal.visit_declared-requires-in-IlocBox
 visit_declared-requires-in-IlocBox g c = rw c.in-IlocBox.is at c.requires
@@ -95,3 +107,9 @@ visit_declared-requires-in-TrefBox g c = rw c.in-TrefBox.is at c.requires
 
 pub returns-in-TrefBox : goal.returns-in-TrefBox
 returns-in-TrefBox g c = rw c.in-TrefBox.is c.visit_declared-in-TrefBox.ensures
+
+pub visit_declared-requires-in-UrnBox : goal.visit_declared-requires-in-UrnBox
+visit_declared-requires-in-UrnBox g c = rw c.in-UrnBox.is at c.requires
+
+pub returns-in-UrnBox : goal.returns-in-UrnBox
+returns-in-UrnBox g c = rw c.in-UrnBox.is c.visit_declared-in-UrnBox.ensures

@@ -3,10 +3,15 @@ use Rattle.mp4_extra.specs.TrackBox.{track_types}
 use Rattle.mp4_extra.specs.contracts.track_box.TrackBoxTrackDeclarations.TheImpl.{ghosts}
 use Rattle.mp4_extra.proofs.track_box.TrackBoxHasFields.show.Goals as goal
 
+pub returns-in-AlisBox : goal.returns-in-AlisBox
+returns-in-AlisBox g c =
+    same_events track_types ghosts.declared g.K.FieldSink.trace g.K.FieldSink.after c.show.result
+    c.args.sink.now c.show.new.sink c.args.view c.args.self.now _ c.in-AlisBox.is c.show.ensures
+
 pub returns-in-DataBox : goal.returns-in-DataBox
 returns-in-DataBox g c =
-    same_events track_types ghosts.declared g.K.FieldSink.trace g.K.FieldSink.after c.show.result
-    c.args.sink.now c.show.new.sink c.args.view c.args.self.now _ c.in-DataBox.is c.show.ensures
+    same_events track_types ghosts.declared g.K.FieldSink.trace g.K.FieldSink.after c.show-in-DataBox.result
+    c.args.sink.now c.show-in-DataBox.new.sink c.args.view c.args.self.now _ c.in-DataBox.is c.show-in-DataBox.ensures
 
 pub returns-in-ElngBox : goal.returns-in-ElngBox
 returns-in-ElngBox g c =
@@ -17,6 +22,11 @@ pub returns-in-FrmaBox : goal.returns-in-FrmaBox
 returns-in-FrmaBox g c =
     same_events track_types ghosts.declared g.K.FieldSink.trace g.K.FieldSink.after c.show-in-FrmaBox.result
     c.args.sink.now c.show-in-FrmaBox.new.sink c.args.view c.args.self.now _ c.in-FrmaBox.is c.show-in-FrmaBox.ensures
+
+pub returns-in-HdlrBox : goal.returns-in-HdlrBox
+returns-in-HdlrBox g c =
+    same_events track_types ghosts.declared g.K.FieldSink.trace g.K.FieldSink.after c.show-in-HdlrBox.result
+    c.args.sink.now c.show-in-HdlrBox.new.sink c.args.view c.args.self.now _ c.in-HdlrBox.is c.show-in-HdlrBox.ensures
 
 pub returns-in-IlocBox : goal.returns-in-IlocBox
 returns-in-IlocBox g c =
@@ -82,3 +92,8 @@ pub returns-in-TrefBox : goal.returns-in-TrefBox
 returns-in-TrefBox g c =
     same_events track_types ghosts.declared g.K.FieldSink.trace g.K.FieldSink.after c.show-in-TrefBox.result
     c.args.sink.now c.show-in-TrefBox.new.sink c.args.view c.args.self.now _ c.in-TrefBox.is c.show-in-TrefBox.ensures
+
+pub returns-in-UrnBox : goal.returns-in-UrnBox
+returns-in-UrnBox g c =
+    same_events track_types ghosts.declared g.K.FieldSink.trace g.K.FieldSink.after c.show-in-UrnBox.result
+    c.args.sink.now c.show-in-UrnBox.new.sink c.args.view c.args.self.now _ c.in-UrnBox.is c.show-in-UrnBox.ensures
