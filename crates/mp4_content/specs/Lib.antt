@@ -1,4 +1,5 @@
 pub mod Content
+pub mod Fields
 pub mod Foreign
 pub mod Kind
 pub mod Terminator

@@ -1,15 +1,21 @@
 //! The content of a box that is shown.
 
-ghost use Rattle.std.specs.Prelude.{◌≡◌, ◌-◌, ◌≤◌, false, length, min, IsTrue, IfOk, OnOk, IfSome};
-ghost use Rattle.mp4_shown.specs.Members.{HandsMembers};
+ghost use Rattle.std.specs.Prelude.{◌≡◌, ◌-◌, ◌≤◌, ◌∷◌, [], false, length, min, IsTrue, IfOk, OnOk, IfSome};
+ghost use Rattle.mp4_show.specs.FrontFields.{sound_fields, usertype_fields};
+ghost use Rattle.mp4_shown.specs.Event.{shown_of};
+ghost use Rattle.mp4_shown.specs.Hands.{Hands};
+ghost use Rattle.mp4_shown.specs.declared.value.Value.{Value as AValue};
+ghost use Rattle.uuid.specs.Text.{hyphenated_text, lower};
 ghost use Rattle.mp4_frame.specs.Reading.{Answers};
 ghost use Rattle.mp4_io.specs.Ends.{is_write};
 ghost use Rattle.mp4_content.specs.Content.{leaf, is_faulty, front, Shows, ShowsKnown, ShowsFront, ShowsEnd, ShowsAs};
+ghost use Rattle.mp4_content.specs.Fields.{content_fields, front_fields, has_version, plain_fields};
 ghost use Rattle.mp4_content.specs.Kind.{kind_of};
 ghost use Rattle.mp4_content.specs.declared.kind.Kind.TheVariants as kinds;
 
 use crate::kind::{Kind, kind_of};
 use crate::shown::Shown;
+use mp4_frame::u16_at;
 use mp4_io::{Failure, or_read};
 use mp4_show::{
     BoxFields, Result, put_entry, put_fields, put_full_head, put_list_head, put_reference,
@@ -201,7 +207,8 @@ pub fn content_of<B: Shown, S: Source>(
 
 /// Sends the type of a `uuid` box to `sink`.
 fn put_uuid<K: FieldSink>(bytes: [u8; 16], sink: &mut K) -> Result<()>
-    ensures whole { OnOk result (HandsMembers K.trace K.after sink.old sink.new) }
+    ensures fields { OnOk result (Hands K.trace K.after sink.old
+        (usertype_fields (hyphenated_text lower bytes)) sink.new) }
 {
     let id = Uuid::from_bytes(bytes);
     let mut buffer = Uuid::encode_buffer();
@@ -209,26 +216,32 @@ fn put_uuid<K: FieldSink>(bytes: [u8; 16], sink: &mut K) -> Result<()>
     put_usertype(text.as_bytes(), sink)
 }
 
-/// Sends the fields of a sound entry, the first of `bytes`, to `sink`. QuickTime's version is left out if it is 0.
-fn put_sound_entry<K: FieldSink>(bytes: &[u8], is_quicktime: bool, sink: &mut K) -> Result<()>
+/// Returns whether QuickTime's version of a sound entry is shown: it is left out if it is 0.
+fn has_version(bytes: &[u8], is_quicktime: bool) -> bool
     requires { 28 ≤ length bytes.now }
-    ensures whole { OnOk result (HandsMembers K.trace K.after sink.old sink.new) }
+    ensures { result ≡ has_version is_quicktime bytes.now }
 {
-    let version = u16::from_be_bytes([bytes[8], bytes[9]]);
-    put_sound(bytes, is_quicktime && version > 0, sink)
+    is_quicktime && u16_at(bytes, 8) > 0
 }
 
-/// Sends the fields at the front of the content of a box to `sink`.
-#[tactic(auto, using(mp4_show::proofs::Handed::no_members))]
-fn put_front<K: FieldSink>(kind: Kind, bytes: &[u8], is_quicktime: bool, sink: &mut K) -> Result<()>
-    ensures whole { OnOk result (HandsMembers K.trace K.after sink.old sink.new) }
+/// Sends the fields of a sound entry, the first of `bytes`, to `sink`.
+fn put_sound_entry<K: FieldSink>(bytes: &[u8], is_quicktime: bool, sink: &mut K) -> Result<()>
+    requires { 28 ≤ length bytes.now }
+    ensures fields { OnOk result ((rate : AValue) × Hands K.trace K.after sink.old
+        (sound_fields (has_version is_quicktime bytes.now) bytes.now (shown_of rate)) sink.new) }
+{
+    put_sound(bytes, has_version(bytes, is_quicktime), sink)
+}
+
+/// Sends the fields at the front of the content of a box that isn't a sound entry to `sink`.
+fn put_plain<K: FieldSink>(kind: Kind, bytes: &[u8], sink: &mut K) -> Result<()>
+    ensures fields { OnOk result (Hands K.trace K.after sink.old (plain_fields kind bytes.now) sink.new) }
 {
     match kind {
         Kind::Full if bytes.len() >= 4 => put_full_head(bytes, sink),
         Kind::List if bytes.len() >= 8 => put_list_head(bytes, sink),
         Kind::Entry if bytes.len() >= 8 => put_entry(bytes, sink),
         Kind::Visual if bytes.len() >= 78 => put_visual(bytes, sink),
-        Kind::Sound if bytes.len() >= 28 => put_sound_entry(bytes, is_quicktime, sink),
         Kind::Terminator => put_terminator(sink),
         Kind::Reference if bytes.len() >= 4 => put_reference(bytes, sink),
         Kind::Uuid => match <[u8; 16]>::try_from(bytes) {
@@ -239,14 +252,26 @@ fn put_front<K: FieldSink>(kind: Kind, bytes: &[u8], is_quicktime: bool, sink: &
     }
 }
 
-/// Sends the fields that were read to `sink`.
-#[tactic(auto, using(mp4_show::proofs::Handed::no_members))]
+/// Sends the fields at the front of the content of a box to `sink`.
+fn put_front<K: FieldSink>(kind: Kind, bytes: &[u8], is_quicktime: bool, sink: &mut K) -> Result<()>
+    ensures fields { OnOk result ((rate : AValue) × Hands K.trace K.after sink.old
+        (front_fields kind is_quicktime bytes.now (shown_of rate)) sink.new) }
+{
+    match kind {
+        Kind::Sound if bytes.len() >= 28 => put_sound_entry(bytes, is_quicktime, sink),
+        Kind::Sound => Ok(()),
+        _ => put_plain(kind, bytes, sink),
+    }
+}
+
+/// Sends the fields that were read to `sink`, as much of them as it wants.
 pub fn put_content<B: BoxFields + Drop, K: FieldSink>(
     content: &Content<B>,
     is_quicktime: bool,
     sink: &mut K,
 ) -> Result<()>
-    ensures whole { OnOk result (HandsMembers K.trace K.after sink.old sink.new) }
+    ensures fields { OnOk result ((rate : AValue) × Hands K.trace K.after sink.old
+        (content_fields (B.shown (K.wanted sink.old)) is_quicktime content.now (shown_of rate)) sink.new) }
 {
     match content {
         Content::Known(value) => put_fields(value, sink),

@@ -11,9 +11,11 @@ use Rattle.std.specs.declared.option.Option.{Option}
 use Rattle.std.proofs.Math.Seq.{drop-cons}
 use Rattle.std.proofs.lemmas.List.{drop_all}
 use Rattle.std.specs.Prelude.{codes}
+use Rattle.std.specs.List.{fold}
 use Rattle.json.specs.Token.{Token}
 use Rattle.json.specs.Written.{Written}
-use Rattle.mp4_inspect.specs.Json.{number_member, type_token, head_tokens, AreFields, IsRest, end_tokens, levels_end}
+use Rattle.mp4_inspect.specs.Json.{number_member, type_token, head_tokens, fields_tokens, IsRest, end_tokens}
+use Rattle.mp4_inspect.specs.Json.{levels_end}
 use Rattle.mp4_inspect.specs.Json.{box_tokens, open_inside, open_after, IsShown, AreBoxes, file_tokens, IsJson, comma}
 use Rattle.mp4_inspect.specs.Json.{WritesJson}
 use Rattle.std.proofs.Math.Bool.{or_assoc, or-false}
@@ -23,10 +25,12 @@ use Rattle.mp4_frame.specs.declared.box_type.BoxType.{BoxType}
 use Rattle.json.specs.Print.{print}
 use Rattle.mp4_content.specs.declared.content.Content.{Content}
 use Rattle.mp4_show.specs.Escaped.{json_escaped}
-use Rattle.mp4_shown.specs.Members.{members}
+use Rattle.mp4_shown.specs.Event.{Event}
+use Rattle.mp4_shown.specs.Members.{AreMembers}
+use Rattle.mp4_shown.specs.declared.view.View.{View}
+use Rattle.mp4_shown_json.proofs.AllTokens.{written_after}
 use Rattle.mp4_shown_json.proofs.Puts.{puts_more, puts_then}
-use Rattle.mp4_shown_json.specs.Tokens.{Puts}
-use Rattle.mp4_shown_json.specs.Whole.{PutsAll}
+use Rattle.mp4_shown_json.specs.Tokens.{Puts, all_tokens, then_event}
 use Rattle.mp4_walk.specs.FileBoxes.{boxes_of}
 use Rattle.mp4_walk.specs.declared.tree_box.TreeBox.{TreeBox}
 
@@ -46,17 +50,22 @@ puts_head r found a b c d e f begun type position size header =
     (puts_then r c d f (number_member (codes "position") found.position) places position
     (puts_then r d e f (number_member (codes "length") found.length) head size header)))
 
+-- the tokens of these events are written
+puts_events : (a b : Written) (es : List Event) → (b.before, b.tokens) ≡ fold then_event (a.before, a.tokens) es
+    → Puts a b (all_tokens es)
+puts_events a b es handed =
+    let all = handed ∙ written_after es (a.before, a.tokens) in
+    (ap (λ (t : List ℕ × List Token). t.0) all, ap (λ (t : List ℕ × List Token). t.1) all)
+
 -- the fields of a box, in an object
-pub puts_fields : (a b c d e : Written) → Puts a b (Token.key (codes "fields") ∷ []) → Puts b c (Token.begin_object
-    ∷ [])
-    → PutsAll members c d → Puts d e (Token.end_object ∷ []) → (ts : List Token) × AreFields ts × Puts a e ts
-puts_fields a b c d e named begun (inner, all, put) ended = (
-  Token.key (codes "fields") ∷ Token.begin_object ∷ (inner ++ Token.end_object ∷ []),
-  (inner, all, refl),
-  puts_more a b e (Token.key (codes "fields") ∷ []) (Token.begin_object ∷ (inner ++ Token.end_object ∷ [])) named
-      (puts_more b c e (Token.begin_object ∷ []) (inner ++ Token.end_object ∷ []) begun
-      (puts_more c d e inner (Token.end_object ∷ []) put ended)),
-)
+pub puts_fields : (es : List Event) (a b c d e : Written) → Puts a b (Token.key (codes "fields") ∷ [])
+    → Puts b c (Token.begin_object ∷ []) → (d.before, d.tokens) ≡ fold then_event (c.before, c.tokens) es
+    → Puts d e (Token.end_object ∷ []) → Puts a e (fields_tokens es)
+puts_fields es a b c d e named begun handed ended =
+    puts_more a b e (Token.key (codes "fields") ∷ []) (Token.begin_object ∷ (all_tokens es ++ Token.end_object ∷ []))
+    named
+    (puts_more b c e (Token.begin_object ∷ []) (all_tokens es ++ Token.end_object ∷ []) begun
+    (puts_more c d e (all_tokens es) (Token.end_object ∷ []) (puts_events c d es handed) ended))
 
 -- one more level ends
 levels_more : (n : ℕ) → levels_end n ++ Token.end_array ∷ Token.end_object ∷ [] ≡ levels_end (suc n)
@@ -83,44 +92,46 @@ pub puts_nothing : (a : Written) → Puts a a []
 puts_nothing a = (refl, sym (append-nil a.tokens))
 
 -- a box, if all of it could be written
-pub puts_box : {E A : Type 0} (r : Result (Unit {0}) E) (begun : ℕ) (found : TreeBox) (content : Content A)
-    (a b c d e : Written)
+pub puts_box : {E A : Type 0} (r : Result (Unit {0}) E) (shown : View → A → List Event) (quicktime : Bool) (begun : ℕ)
+    (found : TreeBox) (content : Content A) (a b c d e : Written)
     → Puts a b (levels_end (begun - found.depth)) → Puts b c (head_tokens found)
-    → ((rest : List Token) × IsRest content rest × Puts c d rest) → OnOk r (Puts d e (end_tokens found.children))
-    → OnOk r ((rest : List Token) × IsRest content rest × Puts a e (box_tokens begun found rest))
-puts_box (Ok _) begun found content a b c d e ended head (rest, is, put) last = (
+    → ((rest : List Token) × IsRest shown quicktime content rest × Puts c d rest)
+    → OnOk r (Puts d e (end_tokens found.children))
+    → OnOk r ((rest : List Token) × IsRest shown quicktime content rest × Puts a e (box_tokens begun found rest))
+puts_box (Ok _) shown quicktime begun found content a b c d e ended head (rest, is, put) last = (
   rest,
   is,
   puts_more a b e (levels_end (begun - found.depth)) (head_tokens found ++ (rest ++ end_tokens found.children)) ended
       (puts_more b c e (head_tokens found) (rest ++ end_tokens found.children) head
       (puts_more c d e rest (end_tokens found.children) put last)),
 )
-puts_box (Err _) begun found content a b c d e ended head rest last = tt
+puts_box (Err _) shown quicktime begun found content a b c d e ended head rest last = tt
 
 -- the output for the first `i` boxes, which together with that for the others is the output for all
-abbrev pub Leads : {A : Type 0} → (BoxType → Bool) → (BoxType → List ℕ → ℕ → ℕ → Reading A) → Option (List ℕ)
-    → List TreeBox → ℕ → ℕ → Bool → Written → Written → Type 0
-Leads known reading bytes boxes i begun faulty a b =
+abbrev pub Leads : {A : Type 0} → (BoxType → Bool) → (BoxType → List ℕ → ℕ → ℕ → Reading A)
+    → (View → A → List Event) → Option (List ℕ) → List TreeBox → ℕ → ℕ → Bool → Written → Written → Type 0
+Leads known reading shown bytes boxes i begun faulty a b =
     (front : List Token) × Puts a b front
-    × ((more : List Token) (there : Bool) → AreBoxes known reading bytes begun (drop i boxes) more there
-    → AreBoxes known reading bytes 0 boxes (front ++ more) (faulty || there))
+    × ((more : List Token) (there : Bool) → AreBoxes known reading shown bytes begun (drop i boxes) more there
+    → AreBoxes known reading shown bytes 0 boxes (front ++ more) (faulty || there))
 
-module _ {A : Type 0} (known : BoxType → Bool) (reading : BoxType → List ℕ → ℕ → ℕ → Reading A) (bytes : Option
-    (List ℕ)) where
+module _ {A : Type 0} (known : BoxType → Bool) (reading : BoxType → List ℕ → ℕ → ℕ → Reading A)
+    (shown : View → A → List Event) (bytes : Option (List ℕ)) where
   -- nothing is written of no boxes
-  pub leads_none : (boxes : List TreeBox) (a : Written) → Leads known reading bytes boxes 0 0 false a a
+  pub leads_none : (boxes : List TreeBox) (a : Written) → Leads known reading shown bytes boxes 0 0 false a a
   leads_none boxes a = ([], (refl, sym (append-nil a.tokens)), λ more there are. are)
 
   -- one more box is written
   pub leads_more : (boxes : List TreeBox) (i begun n : ℕ) (found : TreeBox) (faulty here : Bool) (a b c : Written)
       (now : Option (List ℕ)) → now ≡ bytes
-      → i < length boxes → Leads known reading bytes boxes i begun faulty a b
-      → ((rest : List Token) × IsShown known reading now (get_or boxes i found) rest here
+      → i < length boxes → Leads known reading shown bytes boxes i begun faulty a b
+      → ((rest : List Token) × IsShown known reading shown now (get_or boxes i found) rest here
       × Puts b c (box_tokens begun (get_or boxes i found) rest))
       → n ≡ open_after begun (get_or boxes i found)
-      → Leads known reading bytes boxes (i + 1) n (faulty || here) a c
+      → Leads known reading shown bytes boxes (i + 1) n (faulty || here) a c
   leads_more boxes i begun n found faulty here a b c now same inside (front, put, leads) (rest, shown_now, put_box) is =
-      let shown = subst (λ (known_now : Option (List ℕ)). IsShown known reading known_now (get_or boxes i found)
+      let is_shown = subst (λ (known_now : Option (List ℕ)). IsShown known reading shown known_now
+      (get_or boxes i found)
       rest here) same shown_now in
       let box = box_tokens begun (get_or boxes i found) rest in
       let next : i + 1 ≡ suc i = omega arith in
@@ -128,38 +139,40 @@ module _ {A : Type 0} (known : BoxType → Bool) (reading : BoxType → List ℕ
         front ++ box,
         puts_more a b c front box put put_box,
         λ more there are_next.
-            let are = subst (λ (k : ℕ). AreBoxes known reading bytes k (drop (i + 1) boxes) more there) is are_next in
-            subst (λ (ts : List Token). AreBoxes known reading bytes 0 boxes ts ((faulty || here) || there))
+            let are = subst (λ (k : ℕ). AreBoxes known reading shown bytes k (drop (i + 1) boxes) more there) is
+            are_next in
+            subst (λ (ts : List Token). AreBoxes known reading shown bytes 0 boxes ts ((faulty || here) || there))
             (sym (append_assoc front box more))
-            (subst (λ (x : Bool). AreBoxes known reading bytes 0 boxes (front ++ (box ++ more)) x)
+            (subst (λ (x : Bool). AreBoxes known reading shown bytes 0 boxes (front ++ (box ++ more)) x)
             (sym (or_assoc faulty here there))
             (leads (box ++ more) (here || there)
-            (subst (λ (xs : List TreeBox). AreBoxes known reading bytes begun xs (box ++ more) (here || there))
+            (subst (λ (xs : List TreeBox). AreBoxes known reading shown bytes begun xs (box ++ more) (here || there))
             (sym one)
-            (rest, more, here, there, shown, are, refl, refl)))),
+            (rest, more, here, there, is_shown, are, refl, refl)))),
       )
 
   -- all boxes are written, and all open boxes are ended
   pub leads_all : (boxes : List TreeBox) (i begun n : ℕ) (faulty : Bool) (a b c : Written) → length boxes ≤ i
-      → n ≡ begun → Leads known reading bytes boxes i begun faulty a b → Puts b c (levels_end n)
-      → (inner : List Token) × AreBoxes known reading bytes 0 boxes inner faulty × Puts a c inner
+      → n ≡ begun → Leads known reading shown bytes boxes i begun faulty a b → Puts b c (levels_end n)
+      → (inner : List Token) × AreBoxes known reading shown bytes 0 boxes inner faulty × Puts a c inner
   leads_all boxes i begun n faulty a b c all same (front, put, leads) ended =
       let ends = subst (λ (k : ℕ). Puts b c (levels_end k)) same ended in (
         front ++ levels_end begun,
-        subst (AreBoxes known reading bytes 0 boxes (front ++ levels_end begun)) (or-false faulty)
+        subst (AreBoxes known reading shown bytes 0 boxes (front ++ levels_end begun)) (or-false faulty)
             (leads (levels_end begun) false
-            (subst (λ (xs : List TreeBox). AreBoxes known reading bytes begun xs (levels_end begun) false)
+            (subst (λ (xs : List TreeBox). AreBoxes known reading shown bytes begun xs (levels_end begun) false)
             (sym (drop_all i boxes all)) (refl, refl))),
         puts_more a b c front (levels_end begun) put ends,
       )
 
   -- the text of a file
-  pub is_json : (name text : List ℕ) (boxes : List TreeBox) (faulty : Bool) (a b c d : Written) → a.before ≡ []
+  pub is_json : ((view : View) (v : A) → AreMembers (shown view v)) → (name text : List ℕ) (boxes : List TreeBox)
+      (faulty : Bool) (a b c d : Written) → a.before ≡ []
       → a.tokens ≡ [] → Puts a b (file_tokens name)
-      → ((inner : List Token) × AreBoxes known reading bytes 0 boxes inner faulty × Puts b c inner)
+      → ((inner : List Token) × AreBoxes known reading shown bytes 0 boxes inner faulty × Puts b c inner)
       → Puts c d (Token.end_array ∷ Token.end_object ∷ []) → (d.before ≡ [] → text ≡ json_escaped (print d.tokens))
-      → IsJson known reading bytes name boxes text faulty
-  is_json name text boxes faulty a b c d before none begun (inner, are, put) ended is =
+      → IsJson known reading shown bytes name boxes text faulty
+  is_json whole name text boxes faulty a b c d before none begun (inner, are, put) ended is =
       let ts = file_tokens name ++ (inner ++ Token.end_array ∷ Token.end_object ∷ []) in
       let (same, all) = puts_more a b d (file_tokens name) (inner ++ Token.end_array ∷ Token.end_object ∷ []) begun
       (puts_more b c d inner (Token.end_array ∷ Token.end_object ∷ []) put ended) in
@@ -167,7 +180,7 @@ module _ {A : Type 0} (known : BoxType → Bool) (reading : BoxType → List ℕ
       let front : d.before ≡ [] = same ∙ before in (
         ts,
         (inner, are, refl),
-        whole_json known reading bytes name boxes ts faulty (inner, are, refl),
+        whole_json known reading shown whole bytes name boxes ts faulty (inner, are, refl),
         is front ∙ ap (λ (xs : List Token). json_escaped (print xs)) tokens,
       )
 
@@ -185,14 +198,14 @@ room_after n begun i depth children is room =
 
 -- the text of a file is written
 pub json_written : {A : Type 0} (known : BoxType → Bool) (reading : BoxType → List ℕ → ℕ → ℕ → Reading A)
-    (r : Option (List ℕ)) (name : List ℕ) (boxes : List TreeBox) (follows : Bool) (text : List ℕ) (faulty : Bool)
-    (a b c : Option (List ℕ)) → IsJson known reading r name boxes text faulty → Appends a b (comma follows)
+    (shown : View → A → List Event) (r : Option (List ℕ)) (name : List ℕ) (boxes : List TreeBox)
+    (follows : Bool) (text : List ℕ) (faulty : Bool) (a b c : Option (List ℕ)) → IsJson known reading shown r name boxes text faulty → Appends a b (comma follows)
     → Appends b c text
-    → IfSome r (λ bytes. boxes ≡ boxes_of bytes → WritesJson known reading bytes name follows a c faulty)
-json_written known reading None name boxes follows text faulty a b c is before after = tt
-json_written known reading (Some bytes) name boxes follows text faulty a b c is before after =
+    → IfSome r (λ bytes. boxes ≡ boxes_of bytes → WritesJson known reading shown bytes name follows a c faulty)
+json_written known reading shown None name boxes follows text faulty a b c is before after = tt
+json_written known reading shown (Some bytes) name boxes follows text faulty a b c is before after =
     λ all. (
       text,
-      subst (λ (xs : List TreeBox). IsJson known reading (Some bytes) name xs text faulty) all is,
+      subst (λ (xs : List TreeBox). IsJson known reading shown (Some bytes) name xs text faulty) all is,
       Appends-trans a b c (comma follows) text before after,
     )

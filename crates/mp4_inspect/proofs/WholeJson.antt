@@ -5,15 +5,21 @@ use Rattle.std.specs.Prelude.{codes, decimal}
 use Rattle.std.specs.declared.option.Option.{Option}
 use Rattle.json.specs.Json.{Json as Value}
 use Rattle.json.specs.Token.{Token}
-use Rattle.mp4_shown.specs.Members.{Level, members, entries}
+use Rattle.mp4_shown.specs.Event.{Event, shown_of}
+use Rattle.mp4_shown.specs.Members.{AreMembers, Level, members, entries}
+use Rattle.mp4_shown.specs.declared.view.View.{View}
 use Rattle.mp4_frame.specs.Reading.{Reading}
 use Rattle.mp4_frame.specs.declared.box_type.BoxType.{BoxType}
 use Rattle.mp4_frame.specs.declared.four_cc.FourCC.{FourCC}
-use Rattle.mp4_inspect.specs.Json.{number_member, type_token, head_tokens, IsRest, end_tokens, levels_end, open_inside}
+use Rattle.mp4_inspect.specs.Json.{number_member, type_token, head_tokens, fields_tokens, IsRest, end_tokens}
+use Rattle.mp4_inspect.specs.Json.{is_quicktime, json_view, levels_end, open_inside}
 use Rattle.mp4_inspect.specs.Json.{open_after, box_tokens, AreBoxes, file_tokens, Json}
+use Rattle.mp4_content.proofs.Fields.{front_whole}
+use Rattle.mp4_content.specs.Fields.{front_fields}
 use Rattle.mp4_content.specs.declared.content.Content.{Content}
 use Rattle.mp4_content.specs.declared.content.Content.TheVariants as contents
-use Rattle.mp4_shown_json.proofs.Whole.{Written, value_put, level_put, closed_whole, none_whole}
+use Rattle.mp4_shown_json.proofs.Whole.{Written, value_put, level_put, closed_whole, members_are_whole, none_whole}
+use Rattle.mp4_shown_json.specs.Tokens.{all_tokens}
 use Rattle.mp4_shown_json.specs.Whole.{IsWhole, IsName, bracket, end_bracket}
 use Rattle.mp4_walk.specs.declared.tree_box.TreeBox.{TreeBox}
 
@@ -94,27 +100,34 @@ heads n found ts inside =
     (begin entries members (members ∷ under n) ts [] inside refl) (type_whole found.code))
     (Value.number _, refl)) (Value.number _, refl)) (Value.number _, refl))
 
--- the content of a box is written
-rests : {A : Type 0} (content : Content A) (levels : List Level) (ts rest : List Token) → IsRest content rest
+-- the fields of a box are written
+fields : (es : List Event) (levels : List Level) (ts rest : List Token) → AreMembers es → rest ≡ fields_tokens es
     → Inside (members ∷ levels) ts → Inside (members ∷ levels) (ts ++ rest)
-rests contents.Boxes levels ts rest none inside =
-    subst (λ (xs : List Token). Inside (members ∷ levels) (ts ++ xs)) (sym none) (subst (Inside (members ∷ levels))
-    (sym (append-nil ts)) inside)
-rests contents.Deep levels ts rest none inside =
-    subst (λ (xs : List Token). Inside (members ∷ levels) (ts ++ xs)) (sym none) (subst (Inside (members ∷ levels))
-    (sym (append-nil ts)) inside)
-rests contents.Unread levels ts rest none inside =
-    subst (λ (xs : List Token). Inside (members ∷ levels) (ts ++ xs)) (sym none) (subst (Inside (members ∷ levels))
-    (sym (append-nil ts)) inside)
-rests (contents.Known value) levels ts rest (put, all, is) inside =
+fields es levels ts rest whole is inside =
     subst (λ (xs : List Token). Inside (members ∷ levels) (ts ++ xs)) (sym is)
-    (member levels ts (codes "fields") (Token.begin_object ∷ (put ++ Token.end_object ∷ [])) inside
-    (closed_whole members put all))
-rests (contents.Front kind bytes) levels ts rest (put, all, is) inside =
-    subst (λ (xs : List Token). Inside (members ∷ levels) (ts ++ xs)) (sym is)
-    (member levels ts (codes "fields") (Token.begin_object ∷ (put ++ Token.end_object ∷ [])) inside
-    (closed_whole members put all))
-rests (contents.Faulty fault) levels ts rest (text, is) inside =
+    (member levels ts (codes "fields") (Token.begin_object ∷ (all_tokens es ++ Token.end_object ∷ [])) inside
+    (closed_whole members (all_tokens es) (members_are_whole es whole)))
+
+-- nothing is written
+nothing : (levels : List Level) (ts rest : List Token) → rest ≡ [] → Inside (members ∷ levels) ts
+    → Inside (members ∷ levels) (ts ++ rest)
+nothing levels ts rest none inside =
+    subst (λ (xs : List Token). Inside (members ∷ levels) (ts ++ xs)) (sym none)
+    (subst (Inside (members ∷ levels)) (sym (append-nil ts)) inside)
+
+-- the content of a box is written
+rests : {A : Type 0} (shown : View → A → List Event) → ((view : View) (v : A) → AreMembers (shown view v))
+    → (quicktime : Bool) (content : Content A) (levels : List Level) (ts rest : List Token)
+    → IsRest shown quicktime content rest → Inside (members ∷ levels) ts → Inside (members ∷ levels) (ts ++ rest)
+rests shown whole quicktime contents.Boxes levels ts rest none inside = nothing levels ts rest none inside
+rests shown whole quicktime contents.Deep levels ts rest none inside = nothing levels ts rest none inside
+rests shown whole quicktime contents.Unread levels ts rest none inside = nothing levels ts rest none inside
+rests shown whole quicktime (contents.Known value) levels ts rest is inside =
+    fields (shown json_view value) levels ts rest (whole json_view value) is inside
+rests shown whole quicktime (contents.Front kind bytes) levels ts rest (rate, is) inside =
+    fields (front_fields kind quicktime bytes.items (shown_of rate)) levels ts rest
+    (front_whole kind quicktime bytes.items (shown_of rate)) is inside
+rests shown whole quicktime (contents.Faulty fault) levels ts rest (text, is) inside =
     subst (λ (xs : List Token). Inside (members ∷ levels) (ts ++ xs)) (sym is)
     (member levels ts (codes "fault") (Token.string text ∷ []) inside (Value.string text, refl))
 
@@ -129,11 +142,12 @@ tails (Some first) n ts inside =
       refl,
     )
 
-module _ {A : Type 0} (known : BoxType → Bool) (reading : BoxType → List ℕ → ℕ → ℕ → Reading A) (bytes : Option
-    (List ℕ)) where
+module _ {A : Type 0} (known : BoxType → Bool) (reading : BoxType → List ℕ → ℕ → ℕ → Reading A)
+    (shown : View → A → List Event) (whole : (view : View) (v : A) → AreMembers (shown view v))
+    (bytes : Option (List ℕ)) where
   -- boxes, and the ends of all open boxes
   all_boxes : (boxes : List TreeBox) (begun : ℕ) (ts inner : List Token) (faulty : Bool)
-      → AreBoxes known reading bytes begun boxes inner faulty → Inside (entries ∷ members ∷ under begun) ts
+      → AreBoxes known reading shown bytes begun boxes inner faulty → Inside (entries ∷ members ∷ under begun) ts
       → Inside (entries ∷ members ∷ []) (ts ++ inner)
   all_boxes [] begun ts inner faulty (is, sound) inside =
       subst (λ (xs : List Token). Inside (entries ∷ members ∷ []) (ts ++ xs)) (sym is) (ends begun 0 begun ts (omega
@@ -151,12 +165,13 @@ module _ {A : Type 0} (known : BoxType → Bool) (reading : BoxType → List ℕ
       (all_boxes boxes (open_after begun found) (((ended ++ head_tokens found) ++ rest) ++ end_tokens
       found.children) more there are
       (tails found.children n ((ended ++ head_tokens found) ++ rest)
-      (rests content (entries ∷ members ∷ under n) (ended ++ head_tokens found) rest is_rest
+      (rests shown whole (is_quicktime found) content (entries ∷ members ∷ under n)
+      (ended ++ head_tokens found) rest is_rest
       (heads n found ended (ends (begun - found.depth) n begun ts fits inside))))))
 
   -- all tokens of a file are one value
   pub whole_json : (name : List ℕ) (boxes : List TreeBox) (ts : List Token) (faulty : Bool)
-      → Json known reading bytes name boxes ts faulty → IsWhole ts
+      → Json known reading shown bytes name boxes ts faulty → IsWhole ts
   whole_json name boxes ts faulty (inner, are, is) =
       let named = member [] (Token.begin_object ∷ []) (codes "file") (Token.string name ∷ [])
       ([], none_whole members, refl) (Value.string name, refl) in

@@ -1,5 +1,6 @@
 -- The JSON of a file, in tokens (RFC 8259).
-use Rattle.std.specs.Prelude.{◌≡◌, ℕ, zero, suc, ◌-◌, ◌||◌, min, Bool, false, List, [], ◌∷◌, ◌++◌, codes, decimal}
+use Rattle.std.specs.Prelude.{◌≡◌, ℕ, zero, suc, ◌-◌, ◌^◌, ◌==◌, ◌||◌, min, Bool, false, true}
+use Rattle.std.specs.Prelude.{List, [], ◌∷◌, ◌++◌, codes, decimal}
 use Rattle.std.specs.Prelude.{IfSome}
 use Rattle.std.specs.Prelude.{None, Some, if◌then◌else◌}
 use Rattle.std.specs.Io.KnownBytes.{Appends}
@@ -10,13 +11,16 @@ use Rattle.mp4_frame.specs.Reading.{Reading}
 use Rattle.mp4_frame.specs.declared.box_type.BoxType.{BoxType}
 use Rattle.mp4_frame.specs.declared.four_cc.FourCC.{FourCC}
 use Rattle.mp4_content.specs.Content.{ShowsAs, is_faulty}
+use Rattle.mp4_content.specs.Fields.{front_fields}
 use Rattle.mp4_content.specs.Kind.{kind_of}
 use Rattle.mp4_content.specs.declared.content.Content.{Content}
 use Rattle.mp4_content.specs.declared.content.Content.TheVariants as contents
 use Rattle.mp4_show.specs.Escaped.{json_escaped}
-use Rattle.mp4_shown.specs.Members.{members}
-use Rattle.mp4_shown_json.specs.Tokens.{code_text}
-use Rattle.mp4_shown_json.specs.Whole.{AreWhole, IsWhole}
+use Rattle.mp4_shown.specs.Event.{Event, shown_of}
+use Rattle.mp4_shown.specs.declared.value.Value.{Value}
+use Rattle.mp4_shown.specs.declared.view.View.{View}
+use Rattle.mp4_shown_json.specs.Tokens.{all_tokens, code_text}
+use Rattle.mp4_shown_json.specs.Whole.{IsWhole}
 use Rattle.mp4_walk.specs.FileBoxes.{boxes_of}
 use Rattle.mp4_walk.specs.declared.tree_box.TreeBox.{TreeBox}
 
@@ -36,18 +40,27 @@ head_tokens found =
     ∷ (number_member (codes "position") found.position
     ++ (number_member (codes "length") found.length ++ number_member (codes "header") found.header_length))
 
--- the fields of a box: whole members, in an object
-abbrev pub AreFields : List Token → Type 0
-AreFields ts = (inner : List Token) × AreWhole members inner
-    × (ts ≡ Token.key (codes "fields") ∷ Token.begin_object ∷ (inner ++ Token.end_object ∷ []))
+-- how a box is shown in JSON: whole
+abbrev pub json_view : View
+json_view = record { rows = 2 ^ 64 - 1; columns = true }
 
--- the next member of the object, by the content of the box: its fields, its fault or nothing
-abbrev pub IsRest : {A : Type 0} → Content A → List Token → Type 0
-IsRest (contents.Faulty fault) ts =
+-- the fields of a box with these events: their members, in an object
+abbrev pub fields_tokens : List Event → List Token
+fields_tokens es = Token.key (codes "fields") ∷ Token.begin_object ∷ (all_tokens es ++ Token.end_object ∷ [])
+
+-- the next member of the object of a box, by its content: its fields, its fault or nothing. A whole box is shown in
+-- this way, and a sound entry of QuickTime with its version. The rate in version 2 of such an entry is a number.
+abbrev pub IsRest : {A : Type 0} → (View → A → List Event) → Bool → Content A → List Token → Type 0
+IsRest shown quicktime (contents.Faulty fault) ts =
     (text : List ℕ) × (ts ≡ Token.key (codes "fault") ∷ Token.string text ∷ [])
-IsRest (contents.Known value) ts = AreFields ts
-IsRest (contents.Front kind bytes) ts = AreFields ts
-IsRest _ ts = ts ≡ []
+IsRest shown quicktime (contents.Known value) ts = ts ≡ fields_tokens (shown json_view value)
+IsRest shown quicktime (contents.Front kind bytes) ts =
+    (rate : Value) × (ts ≡ fields_tokens (front_fields kind quicktime bytes.items (shown_of rate)))
+IsRest shown quicktime _ ts = ts ≡ []
+
+-- the box is in the sample descriptions of a QuickTime file
+abbrev pub is_quicktime : TreeBox → Bool
+is_quicktime found = found.context.stsd_version == 0
 
 -- the end of the object; in a box with children, the beginning of these, and the object ends after them
 abbrev pub end_tokens : Option ℕ → List Token
@@ -74,20 +87,20 @@ box_tokens begun found rest =
 
 -- the output for this box after its head, and whether it has a fault. If the bytes of the file are known, they and the
 -- kind of the box decide it
-abbrev pub IsShown : {A : Type 0} → (BoxType → Bool) → (BoxType → List ℕ → ℕ → ℕ → Reading A) → Option (List ℕ)
-    → TreeBox → List Token → Bool → Type 0
-IsShown {A} known reading bytes found rest faulty =
+abbrev pub IsShown : {A : Type 0} → (BoxType → Bool) → (BoxType → List ℕ → ℕ → ℕ → Reading A)
+    → (View → A → List Event) → Option (List ℕ) → TreeBox → List Token → Bool → Type 0
+IsShown {A} known reading shown bytes found rest faulty =
     (content : Content A) × IfSome bytes (λ B. ShowsAs known reading B found (kind_of known found) content)
-    × IsRest content rest × (faulty ≡ is_faulty content)
+    × IsRest shown (is_quicktime found) content rest × (faulty ≡ is_faulty content)
 
 -- the remaining boxes in order, with `n` containers open before them, and then the ends of all open containers; and
 -- whether one of the boxes has a fault
-abbrev pub AreBoxes : {A : Type 0} → (BoxType → Bool) → (BoxType → List ℕ → ℕ → ℕ → Reading A) → Option (List ℕ)
-    → ℕ → List TreeBox → List Token → Bool → Type 0
-AreBoxes known reading bytes begun [] ts faulty = (ts ≡ levels_end begun) × (faulty ≡ false)
-AreBoxes known reading bytes begun (found ∷ boxes) ts faulty =
-    (rest more : List Token) × (here there : Bool) × IsShown known reading bytes found rest here
-    × AreBoxes known reading bytes (open_after begun found) boxes more there
+abbrev pub AreBoxes : {A : Type 0} → (BoxType → Bool) → (BoxType → List ℕ → ℕ → ℕ → Reading A)
+    → (View → A → List Event) → Option (List ℕ) → ℕ → List TreeBox → List Token → Bool → Type 0
+AreBoxes known reading shown bytes begun [] ts faulty = (ts ≡ levels_end begun) × (faulty ≡ false)
+AreBoxes known reading shown bytes begun (found ∷ boxes) ts faulty =
+    (rest more : List Token) × (here there : Bool) × IsShown known reading shown bytes found rest here
+    × AreBoxes known reading shown bytes (open_after begun found) boxes more there
     × (ts ≡ box_tokens begun found rest ++ more) × (faulty ≡ (here || there))
 
 -- the first members of the object of a file
@@ -97,27 +110,27 @@ file_tokens name =
     Token.begin_array ∷ []
 
 -- the tokens of a file: an object with its name and its boxes; and whether one of these has a fault
-abbrev pub Json : {A : Type 0} → (BoxType → Bool) → (BoxType → List ℕ → ℕ → ℕ → Reading A) → Option (List ℕ) → List ℕ
-    → List TreeBox → List Token → Bool → Type 0
-Json known reading bytes name boxes ts faulty =
-    (inner : List Token) × AreBoxes known reading bytes 0 boxes inner faulty
+abbrev pub Json : {A : Type 0} → (BoxType → Bool) → (BoxType → List ℕ → ℕ → ℕ → Reading A) → (View → A → List Event)
+    → Option (List ℕ) → List ℕ → List TreeBox → List Token → Bool → Type 0
+Json known reading shown bytes name boxes ts faulty =
+    (inner : List Token) × AreBoxes known reading shown bytes 0 boxes inner faulty
     × (ts ≡ file_tokens name ++ (inner ++ Token.end_array ∷ Token.end_object ∷ []))
 
 -- a text is a print of these tokens, in which some characters are shown by their numbers, and the tokens are one whole
 -- value
-abbrev pub IsJson : {A : Type 0} → (BoxType → Bool) → (BoxType → List ℕ → ℕ → ℕ → Reading A) → Option (List ℕ)
-    → List ℕ → List TreeBox → List ℕ → Bool → Type 0
-IsJson known reading bytes name boxes text faulty =
-    (ts : List Token) × Json known reading bytes name boxes ts faulty × IsWhole ts × (text ≡ json_escaped (print ts))
+abbrev pub IsJson : {A : Type 0} → (BoxType → Bool) → (BoxType → List ℕ → ℕ → ℕ → Reading A) → (View → A → List Event)
+    → Option (List ℕ) → List ℕ → List TreeBox → List ℕ → Bool → Type 0
+IsJson known reading shown bytes name boxes text faulty =
+    (ts : List Token) × Json known reading shown bytes name boxes ts faulty × IsWhole ts
+    × (text ≡ json_escaped (print ts))
 
 -- the comma between files
 abbrev pub comma : Bool → List ℕ
 comma follows = if follows then codes ",\n" else []
 
 -- the JSON of a file with these bytes is written, after a comma if it follows another
-abbrev pub WritesJson : {A : Type 0} → (BoxType → Bool) → (BoxType → List ℕ → ℕ → ℕ → Reading A) → List ℕ → List ℕ
-    → Bool
-    → Option (List ℕ) → Option (List ℕ) → Bool → Type 0
-WritesJson known reading bytes name follows old new faulty =
-    (text : List ℕ) × IsJson known reading (Some bytes) name (boxes_of bytes) text faulty
+abbrev pub WritesJson : {A : Type 0} → (BoxType → Bool) → (BoxType → List ℕ → ℕ → ℕ → Reading A)
+    → (View → A → List Event) → List ℕ → List ℕ → Bool → Option (List ℕ) → Option (List ℕ) → Bool → Type 0
+WritesJson known reading shown bytes name follows old new faulty =
+    (text : List ℕ) × IsJson known reading shown (Some bytes) name (boxes_of bytes) text faulty
     × Appends old new (comma follows ++ text)

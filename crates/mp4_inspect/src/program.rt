@@ -153,7 +153,7 @@ fn show_objects<B: Shown, S: Source, W: Write>(
 ) -> Result<bool, Failure>
     ensures json { IfSome tree.old.bytes
         (λ bytes. boxes.now ≡ boxes_of bytes
-        → IfOk result (λ faulty. WritesJson B.known B.named_reading bytes name.now follows
+        → IfOk result (λ faulty. WritesJson B.known B.named_reading B.shown bytes name.now follows
         (W.contents output.old.inner) (W.contents output.new.inner) faulty)) }
 {
     let shown = tree_json::<B, S>(alloc, tree, name, boxes)?;
@@ -171,7 +171,7 @@ fn show_json<B: Shown, S: Source, W: Write>(
     output: &mut Output<W>,
 ) -> Result<bool, Failure>
     ensures json { IfSome (S.all source)
-        (λ bytes. IfOk result (λ faulty. WritesJson B.known B.named_reading bytes name.now follows
+        (λ bytes. IfOk result (λ faulty. WritesJson B.known B.named_reading B.shown bytes name.now follows
         (W.contents output.old.inner) (W.contents output.new.inner) faulty)) }
 {
     let mut tree = or_read(BoxWalk::new(alloc, source))?;
@@ -317,7 +317,7 @@ pub fn inspect<B: Shown, S: Source, W: Write>(
     ensures json { show.task ≡ Task.Json
         → IfSome (S.all source)
         (λ bytes. IfOk result
-        (λ faulty. WritesJson B.known B.named_reading bytes name.now show.follows (W.contents output.old.inner)
+        (λ faulty. WritesJson B.known B.named_reading B.shown bytes name.now show.follows (W.contents output.old.inner)
         (W.contents output.new.inner) faulty)) }
     ensures samples { show.task ≡ Task.Samples
         → IfSome (S.all source)

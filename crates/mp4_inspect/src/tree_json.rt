@@ -2,9 +2,12 @@
 
 ghost use Rattle.std.specs.Prelude.{◌≡◌, ℕ, ◌-◌, ◌+◌, ◌<◌, ◌^◌, min, List, [], ◌∷◌, ◌||◌, codes, IfOk, OnOk};
 ghost use Rattle.json.specs.Token.{Token, key, string};
-ghost use Rattle.mp4_inspect.specs.Json.{number_member, head_tokens, type_token, AreFields, IsRest, end_tokens};
-ghost use Rattle.mp4_inspect.specs.Json.{levels_end};
+ghost use Rattle.mp4_content.specs.Fields.{content_fields};
+ghost use Rattle.mp4_inspect.specs.Json.{number_member, head_tokens, type_token, fields_tokens, IsRest, end_tokens};
+ghost use Rattle.mp4_inspect.specs.Json.{is_quicktime, json_view, levels_end};
 ghost use Rattle.mp4_inspect.specs.Json.{open_inside, open_after, box_tokens, IsShown, file_tokens, IsJson};
+ghost use Rattle.mp4_shown.specs.Event.{shown_of};
+ghost use Rattle.mp4_shown.specs.declared.value.Value.{Value};
 ghost use Rattle.mp4_shown_json.specs.Tokens.{Puts};
 
 use mp4_content::{Content, Shown, content_of, either, fault_text, or_memory, put_content};
@@ -74,7 +77,8 @@ fn put_all_fields<B: BoxFields + Drop>(
     is_quicktime: bool,
     sink: &mut JsonSink,
 ) -> Result<()>
-    ensures fields { OnOk result ((ts : List Token) × AreFields ts × Puts sink.old.out sink.new.out ts) }
+    ensures fields { OnOk result ((rate : Value) × Puts sink.old.out sink.new.out
+        (fields_tokens (content_fields (B.shown json_view) is_quicktime content.now (shown_of rate)))) }
 {
     sink.out.key("fields")?;
     sink.out.begin_object()?;
@@ -90,7 +94,8 @@ fn put_rest<B: BoxFields + Drop>(
     content: &Content<B>,
     sink: &mut JsonSink,
 ) -> Result<()>
-    ensures rest { OnOk result ((ts : List Token) × IsRest content.now ts × Puts sink.old.out sink.new.out ts) }
+    ensures rest { OnOk result ((ts : List Token) × IsRest B.shown (is_quicktime found.now) content.now ts
+        × Puts sink.old.out sink.new.out ts) }
 {
     match content {
         Content::Boxes | Content::Deep | Content::Unread => Ok(()),
@@ -156,7 +161,7 @@ fn put_box<B: BoxFields + Drop>(
     sink: &mut JsonSink,
 ) -> Result<()>
     requires { begun.old < 2 ^ 64 - 1 }
-    ensures tokens { OnOk result ((rest : List Token) × IsRest content.now rest
+    ensures tokens { OnOk result ((rest : List Token) × IsRest B.shown (is_quicktime found.now) content.now rest
         × Puts sink.old.out sink.new.out (box_tokens begun.old found.now rest)) }
     ensures begun { OnOk result (begun.new ≡ open_after begun.old found.now) }
 {
@@ -176,7 +181,7 @@ fn write_box<B: Shown, S: Source>(
 ) -> std::result::Result<bool, Failure>
     requires { begun.old < 2 ^ 64 - 1 }
     ensures json { IfOk result (λ faulty. (rest : List Token)
-        × IsShown B.known B.named_reading tree.old.bytes found.now rest faulty
+        × IsShown B.known B.named_reading B.shown tree.old.bytes found.now rest faulty
         × Puts sink.old.out sink.new.out (box_tokens begun.old found.now rest)) }
     ensures begun { OnOk result (begun.new ≡ open_after begun.old found.now) }
     ensures kept { tree.new ≡ tree.old }
@@ -216,7 +221,7 @@ pub fn tree_json<B: Shown, S: Source>(
     boxes: &[TreeBox],
 ) -> std::result::Result<(Vec<u8>, bool), Failure>
     ensures json { IfOk result
-        (λ shown. IsJson B.known B.named_reading tree.old.bytes name.now boxes.now shown.0.items shown.1) }
+        (λ shown. IsJson B.known B.named_reading B.shown tree.old.bytes name.now boxes.now shown.0.items shown.1) }
 {
     let mut sink = JsonSink::new(alloc);
     let mut faulty = false;

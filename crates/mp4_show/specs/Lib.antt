@@ -11,6 +11,7 @@ pub mod SoundRows
 pub mod Descriptions
 pub mod Metadata
 pub mod Fronts
+pub mod FrontFields
 pub mod FrontRows
 pub mod SoundFront
 pub mod Texts

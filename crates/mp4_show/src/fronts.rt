@@ -1,13 +1,10 @@
 //! Fields that are read from bytes: those that begin a box that holds boxes, those of sample entries of any code, and
 //! those of a reference, with its text as it is.
 
-ghost use Rattle.std.specs.Prelude.{◌≡◌, ◌≤◌, ◌∷◌, [], OnOk, length, slice_range};
-ghost use Rattle.mp4_show.specs.FrontRows.{entry_row, head_row, list_row, reference_row, visual_row};
+ghost use Rattle.std.specs.Prelude.{◌≡◌, ◌≤◌, OnOk, length, slice_range};
+ghost use Rattle.mp4_show.specs.FrontFields.{entry_fields, head_fields, list_fields, reference_fields};
+ghost use Rattle.mp4_show.specs.FrontFields.{terminator_fields, usertype_fields, visual_fields};
 ghost use Rattle.mp4_show.specs.Fronts.{compressor, location};
-ghost use Rattle.mp4_show.specs.Row.{number, shown_row, text as as_text};
-ghost use Rattle.mp4_show.specs.declared.fields.media.TheConstants.{URL};
-ghost use Rattle.mp4_show.specs.declared.fronts.TheConstants.{ENTRY, LIST, TERMINATOR, USERTYPE, VISUAL};
-ghost use Rattle.mp4_show.specs.declared.row.TheConstants.{FULL};
 ghost use Rattle.mp4_shown.specs.Hands.{Hands};
 ghost use Rattle.mp4_shown.specs.Members.{HandsMembers};
 
@@ -19,7 +16,7 @@ use mp4_shown::{FLAGS, FieldSink, NumberName, Result, VERSION, number};
 /// Hands version and flags to a sink (ISO/IEC 14496-12, 4.2). They are the first 4 bytes of the content of a full box.
 pub fn put_full_head<K: FieldSink>(bytes: &[u8], sink: &mut K) -> Result<()>
     requires { 4 ≤ length bytes.now }
-    ensures fields { OnOk result (Hands K.trace K.after sink.old (shown_row FULL.now (head_row bytes.now)) sink.new) }
+    ensures fields { OnOk result (Hands K.trace K.after sink.old (head_fields bytes.now) sink.new) }
     ensures whole { OnOk result (HandsMembers K.trace K.after sink.old sink.new) }
 {
     let parts = [Part::U8(u8_at(bytes, 0)), Part::U32(u24_at(bytes, 1))];
@@ -33,7 +30,7 @@ const LIST: &[NumberName] = &[VERSION, FLAGS, number!("entry_count")];
 /// Hands the fields before the boxes of an `stsd` or a `dref` to a sink. They are the first 8 bytes of its content.
 pub fn put_list_head<K: FieldSink>(bytes: &[u8], sink: &mut K) -> Result<()>
     requires { 8 ≤ length bytes.now }
-    ensures fields { OnOk result (Hands K.trace K.after sink.old (shown_row LIST.now (list_row bytes.now)) sink.new) }
+    ensures fields { OnOk result (Hands K.trace K.after sink.old (list_fields bytes.now) sink.new) }
     ensures whole { OnOk result (HandsMembers K.trace K.after sink.old sink.new) }
 {
     let parts = [
@@ -50,7 +47,7 @@ const ENTRY: &[NumberName] = &[number!("data_reference_index")];
 /// Hands the field that all sample entries have to a sink. It ends at byte 8 of the content.
 pub fn put_entry<K: FieldSink>(bytes: &[u8], sink: &mut K) -> Result<()>
     requires { 8 ≤ length bytes.now }
-    ensures fields { OnOk result (Hands K.trace K.after sink.old (shown_row ENTRY.now (entry_row bytes.now)) sink.new) }
+    ensures fields { OnOk result (Hands K.trace K.after sink.old (entry_fields bytes.now) sink.new) }
     ensures whole { OnOk result (HandsMembers K.trace K.after sink.old sink.new) }
 {
     let parts = [Part::U16(u16_at(bytes, 6))];
@@ -90,8 +87,7 @@ fn compressor_of(bytes: &[u8]) -> &[u8]
 /// Hands the common fields of a sample entry of video to a sink. They are the first 78 bytes of its content.
 pub fn put_visual<K: FieldSink>(bytes: &[u8], sink: &mut K) -> Result<()>
     requires { 78 ≤ length bytes.now }
-    ensures fields { OnOk result (Hands K.trace K.after sink.old
-        (shown_row VISUAL.now (visual_row bytes.now)) sink.new) }
+    ensures fields { OnOk result (Hands K.trace K.after sink.old (visual_fields bytes.now) sink.new) }
     ensures whole { OnOk result (HandsMembers K.trace K.after sink.old sink.new) }
 {
     let parts = [
@@ -121,8 +117,7 @@ fn location(bytes: &[u8]) -> &[u8]
 /// content.
 pub fn put_reference<K: FieldSink>(bytes: &[u8], sink: &mut K) -> Result<()>
     requires { 4 ≤ length bytes.now }
-    ensures fields { OnOk result (Hands K.trace K.after sink.old
-        (shown_row URL.now (reference_row bytes.now)) sink.new) }
+    ensures fields { OnOk result (Hands K.trace K.after sink.old (reference_fields bytes.now) sink.new) }
     ensures whole { OnOk result (HandsMembers K.trace K.after sink.old sink.new) }
 {
     let parts = [
@@ -138,8 +133,7 @@ const USERTYPE: &[NumberName] = &[field!("usertype")];
 
 /// Hands `text`, the type of a `uuid` box, to a sink.
 pub fn put_usertype<K: FieldSink>(text: &[u8], sink: &mut K) -> Result<()>
-    ensures fields { OnOk result (Hands K.trace K.after sink.old
-        (shown_row USERTYPE.now (as_text text.now ∷ [])) sink.new) }
+    ensures fields { OnOk result (Hands K.trace K.after sink.old (usertype_fields text.now) sink.new) }
     ensures whole { OnOk result (HandsMembers K.trace K.after sink.old sink.new) }
 {
     let parts = [Part::Text(text)];
@@ -151,7 +145,7 @@ const TERMINATOR: &[NumberName] = &[number!("terminator")];
 
 /// Hands the four zero bytes that may end a box of QuickTime to a sink, as a number.
 pub fn put_terminator<K: FieldSink>(sink: &mut K) -> Result<()>
-    ensures fields { OnOk result (Hands K.trace K.after sink.old (shown_row TERMINATOR.now (number 0 ∷ [])) sink.new) }
+    ensures fields { OnOk result (Hands K.trace K.after sink.old terminator_fields sink.new) }
     ensures whole { OnOk result (HandsMembers K.trace K.after sink.old sink.new) }
 {
     let parts = [Part::U32(0)];

@@ -1,6 +1,7 @@
 //! The fields of sample entries of sound of any code, which are read from bytes.
 
 ghost use Rattle.std.specs.Prelude.{◌≡◌, ◌≤◌, ◌∷◌, OnOk, codes, length};
+ghost use Rattle.mp4_show.specs.FrontFields.{sound_fields};
 ghost use Rattle.mp4_show.specs.Row.{shown_row};
 ghost use Rattle.mp4_show.specs.SoundFront.{first_row, second_row, shown_first, shown_second, shown_sound};
 ghost use Rattle.mp4_show.specs.SoundFront.{version_of};
@@ -170,7 +171,7 @@ fn put_with_rate<K: FieldSink>(
 pub fn put_sound<K: FieldSink>(bytes: &[u8], quicktime: bool, sink: &mut K) -> Result<()>
     requires { 28 ≤ length bytes.now }
     ensures fields { OnOk result ((rate : AValue) × Hands K.trace K.after sink.old
-        (shown_sound COMMON.now FIRST.now SECOND.now quicktime bytes.now (shown_of rate)) sink.new) }
+        (sound_fields quicktime bytes.now (shown_of rate)) sink.new) }
     ensures whole { OnOk result (HandsMembers K.trace K.after sink.old sink.new) }
 {
     let mut buffer = Buffer::new();

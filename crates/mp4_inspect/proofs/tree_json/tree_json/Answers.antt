@@ -5,7 +5,7 @@ use Rattle.mp4_inspect.proofs.tree_json.tree_json.Goals as goal
 pub loop-found-init : goal.loop-found-init
 loop-found-init g c = record {
   written =
-      leads_none g.B.Shown.known g.B.Shown.named_reading c.args.tree.now.bytes c.args.boxes.now
+      leads_none g.B.Shown.known g.B.Shown.named_reading g.B.BoxFields.shown c.args.tree.now.bytes c.args.boxes.now
       c.begin_file.new.sink.out;
   room = search rules;
   kept = search rules;
@@ -15,7 +15,7 @@ pub loop-found-preserved : goal.loop-found-preserved
 loop-found-preserved g c = record {
   written =
       rw c.either-faulty.ensures
-      (leads_more g.B.Shown.known g.B.Shown.named_reading c.args.tree.now.bytes c.args.boxes.now
+      (leads_more g.B.Shown.known g.B.Shown.named_reading g.B.BoxFields.shown c.args.tree.now.bytes c.args.boxes.now
       c.loop-found.found-index c.loop-found.begun c.write_box.new.begun _ c.loop-found.faulty c.in_ok-here.here
       c.begin_file.new.sink.out c.loop-found.sink.out c.write_box.new.sink.out c.loop-found.tree.bytes
       (ap (λ t. t.bytes) c.loop-found.invariant.kept) (search rules) c.loop-found.invariant.written
@@ -30,17 +30,20 @@ pub returns : goal.returns
 returns g c =
     let known = g.B.Shown.known in
     let reading = g.B.Shown.named_reading in
+    let shown = g.B.BoxFields.shown in
     let bytes = c.args.tree.now.bytes in
     let boxes = c.args.boxes.now in
     let all : length boxes ≤ c.loop-found.found-index = search rules in
     let same : c.loop-found.begun - 0 ≡ c.loop-found.begun = omega arith in
     record {
       json =
-          is_json known reading bytes c.args.name.now c.in_ok-or_memory-4.field-0.items boxes c.loop-found.faulty
+          is_json known reading shown bytes g.B.BoxFields.whole c.args.name.now c.in_ok-or_memory-4.field-0.items
+          boxes c.loop-found.faulty
           c.new-sink.result.out c.begin_file.new.sink.out c.end_levels.new.sink.out c.end_file.new.sink.out
           c.new-sink.ensures.before c.new-sink.ensures.tokens
           (rw c.in_ok-or_memory.ensures.ok at c.begin_file.ensures.tokens)
-          (leads_all known reading bytes boxes c.loop-found.found-index c.loop-found.begun (c.loop-found.begun - 0)
+          (leads_all known reading shown bytes boxes c.loop-found.found-index c.loop-found.begun
+          (c.loop-found.begun - 0)
           c.loop-found.faulty c.begin_file.new.sink.out c.loop-found.sink.out c.end_levels.new.sink.out all same
           c.loop-found.invariant.written
           (rw c.in_ok-or_memory-2.ensures.ok at c.end_levels.ensures.tokens))

@@ -5,7 +5,7 @@ use Rattle.mp4_inspect.proofs.tree_json.tree_json.Given as goal
 
 abbrev pub invariant-loop-found : goal.invariant-loop-found
 invariant-loop-found g l = record {
-  written : Leads g.B.Shown.known g.B.Shown.named_reading l.initial.tree.bytes l.boxes l.found-index
+  written : Leads g.B.Shown.known g.B.Shown.named_reading g.B.BoxFields.shown l.initial.tree.bytes l.boxes l.found-index
       l.begun l.faulty
       l.initial.sink.out l.sink.out;
   room : l.begun ≤ l.found-index;
