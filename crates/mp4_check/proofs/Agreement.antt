@@ -113,7 +113,7 @@ passes t is =
     (both_true (lt-ltb _ _ is.counted) (both_true (le-leb _ _ is.placed) (both_true (le-leb _ _ is.timed)
     (both_true is.sync (within_passes t.stsz.now (offsets_of t.chunk_offsets) is.within)))))))
 
--- What is computed of tables is what is computed of their boxes.
+-- Tables and their boxes give the same values.
 offsets_are : (b : ChunkBox) (o : ChunkOffsets) → AreChunksOf b o → offsets_of o ≡ offsets_in b
 offsets_are (boxes.Stco v) (offsets.Stco b) is = ap (λ (s : StcoBox). s.entries) is
 offsets_are (boxes.Co64 v) (offsets.Co64 b) is = ap (λ (s : Co64Box). s.entries) is

@@ -1,4 +1,4 @@
--- What the rules of tracks need of a movie, part by part.
+-- The facts of a movie that the rules of tracks need, part by part.
 use Rattle.std.proofs.Common.{◌≡◌, ℕ, Bool, List, ap, ◌∙◌}
 use Rattle.std.specs.declared.option.Option.{Option}
 use Rattle.mp4_check.specs.TrackFaults.{Facts}

@@ -1,4 +1,4 @@
--- What is written and stored between two tracks, trafs, moofs or indexes.
+-- The faults written and the state stored between two tracks, trafs, moofs or indexes.
 use Rattle.std.proofs.Common.{◌≡◌, ℕ, Bool, true, false, List, [], ◌∷◌, ◌++◌, None, Some, refl, sym, ap, subst}
 use Rattle.std.proofs.Common.{◌∙◌, append_assoc, append-nil}
 use Rattle.std.specs.Prelude.{◌&&◌, is_some}

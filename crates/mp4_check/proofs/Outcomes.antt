@@ -1,4 +1,4 @@
--- What follows from what a call returned.
+-- Facts that follow from the outcome of a call.
 use Rattle.std.proofs.Common.{◌≡◌, Result, Ok, Err, None, Some, refl, subst}
 use Rattle.std.specs.Prelude.{IfOk, IfSome, OnOk}
 use Rattle.std.specs.declared.option.Option.{Option}
@@ -22,7 +22,7 @@ pub if_both : {A : Type 0} (o : Option A) {P Q R : A → Type 0} → IfSome o P 
 if_both None p q f = tt
 if_both (Some a) p q f = f a p q
 
--- What holds of each value that the option has.
+-- A property of each value that the option has.
 pub if_is : {A : Type 0} (o : Option A) {P : A → Type 0} → ((a : A) → o ≡ Some a → P a) → IfSome o P
 if_is None f = tt
 if_is (Some a) f = f a refl

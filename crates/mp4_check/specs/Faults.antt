@@ -82,7 +82,7 @@ faults_of known reading reads_sidx file = faults_in known reading reads_sidx fil
 abbrev pub told_before : Bool → Told
 told_before any = record { any = any; failures = false; warnings = false }
 
--- the faults of a file are written, and no others, and this is told of them
+-- the faults of a file are written, and no others, and `told` summarizes them
 abbrev pub WritesCheck : {A : Type 0} → (BoxType → Bool) → (BoxType → List ℕ → ℕ → ℕ → Reading A)
     → (List ℕ → ℕ → ℕ → Reading Sidx) → Form → Bool → List ℕ → Option (List ℕ) → Option (List ℕ) → Told → Type 0
 WritesCheck known reading reads_sidx form any file old new told =

@@ -89,7 +89,7 @@ told_after t s =
 abbrev pub told_all : Told → List Value → Told
 told_all t vs = fold (λ t v. told_after t (severity_at v)) t vs
 
--- these faults are written, and no others, after what was told before, and this is told then
+-- these faults are written, and no others; `before` and `now` summarize all faults before and after them
 abbrev pub Writes : Form → Told → List Value → Option (List ℕ) → Option (List ℕ) → Told → Type 0
 Writes form before vs old new now =
     (text : List ℕ) × AreShown form before.any vs text × Appends old new text × (now ≡ told_all before vs)

@@ -11,7 +11,7 @@ use mp4_content::NotMp4;
 use mp4_frame::Error;
 use mp4_samples::Disagreement;
 
-/// What is wrong. Positions, offsets and sizes are in bytes.
+/// A cause of a fault. Positions, offsets and sizes are in bytes.
 #[derive(Clone, Copy, Debug)]
 pub enum What {
     /// The file is not an MP4 file.
@@ -163,9 +163,9 @@ pub struct Fault {
     pub position: u64,
     /// The path of that box.
     pub path: Vec<Part>,
-    /// What is wrong.
+    /// The cause.
     pub what: What,
-    /// What the library says about it.
+    /// The error of the library.
     pub reason: Reason,
 }
 

@@ -29,7 +29,7 @@ use mp4_walk::{BoxWalk, Source, TreeBox};
 use std::alloc::Global;
 use std::collections::BTreeMap;
 
-/// What the rules of fragments need of the rest of the file.
+/// The facts of the rest of the file that the rules of fragments need.
 #[derive(Drop)]
 pub struct FileFacts {
     /// The media data of the file.
@@ -53,7 +53,7 @@ pub struct TrafPlace {
     pub number: u64,
 }
 
-/// What goes on from one `traf` to the next.
+/// The state that goes on from one `traf` to the next.
 #[derive(Drop)]
 pub struct Going {
     /// The end of the data of the last `traf`, or the position of the `moof` before its first `traf`, if it is known.

@@ -27,7 +27,7 @@ pub enum Form<'a> {
     Objects(&'a str),
 }
 
-/// What was written so far.
+/// A summary of the faults that were written.
 #[derive(Clone, Copy, Debug, PartialEq, Eq)]
 pub struct Told {
     /// True if a fault was written, of any file.

@@ -53,7 +53,7 @@ pub struct Place {
     pub offset: u64,
     /// The number of bytes.
     pub size: u64,
-    /// Where they lie.
+    /// The place of these bytes.
     pub lies: Lies,
 }
 

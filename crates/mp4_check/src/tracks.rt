@@ -41,7 +41,7 @@ use mp4_walk::{BoxWalk, Source, TreeBox};
 use std::alloc::Global;
 use std::collections::BTreeMap;
 
-/// What the rules of a track need of the movie.
+/// The facts of the movie that the rules of a track need.
 #[derive(Drop)]
 pub struct MovieFacts {
     /// The media data of the file.
@@ -52,7 +52,7 @@ pub struct MovieFacts {
     pub is_fragmented: bool,
 }
 
-/// What is known of the tracks so far.
+/// The facts of the tracks that were read.
 #[derive(Drop)]
 pub struct Met {
     /// The position of the `tkhd` of the first track with each track_ID.

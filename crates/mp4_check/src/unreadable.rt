@@ -16,7 +16,7 @@ use std::alloc::Global;
 /// A box that can't be read: what is wrong, and the error of the reader.
 #[derive(Debug, Drop)]
 pub struct Unread {
-    /// What is wrong.
+    /// The cause.
     pub what: What,
     /// The error.
     pub reason: Reason,

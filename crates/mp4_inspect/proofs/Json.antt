@@ -199,7 +199,8 @@ room_after n begun i depth children is room =
 -- the text of a file is written
 pub json_written : {A : Type 0} (known : BoxType → Bool) (reading : BoxType → List ℕ → ℕ → ℕ → Reading A)
     (shown : View → A → List Event) (r : Option (List ℕ)) (name : List ℕ) (boxes : List TreeBox)
-    (follows : Bool) (text : List ℕ) (faulty : Bool) (a b c : Option (List ℕ)) → IsJson known reading shown r name boxes text faulty → Appends a b (comma follows)
+    (follows : Bool) (text : List ℕ) (faulty : Bool) (a b c : Option (List ℕ))
+    → IsJson known reading shown r name boxes text faulty → Appends a b (comma follows)
     → Appends b c text
     → IfSome r (λ bytes. boxes ≡ boxes_of bytes → WritesJson known reading shown bytes name follows a c faulty)
 json_written known reading shown None name boxes follows text faulty a b c is before after = tt

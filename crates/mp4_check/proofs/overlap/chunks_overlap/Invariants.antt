@@ -1,4 +1,4 @@
--- What is left to find begins at the chunk before the current one.
+-- The overlaps that are left to find begin at the chunk before the current one.
 use Rattle.std.proofs.Common.{◌≡◌, ◌-◌, drop, None}
 use Rattle.mp4_check.specs.Overlap.{chunks_overlap}
 use Rattle.mp4_check.proofs.overlap.chunks_overlap.Given as goal
