@@ -2,4 +2,5 @@ pub mod Boxes
 pub mod Json
 pub mod PatternSteps
 pub mod PieceSteps
+pub mod TreeSteps
 pub mod WholeJson

@@ -5,4 +5,5 @@ pub mod Listed
 pub mod Opened
 pub mod Outcome
 pub mod Patterns
+pub mod Trees
 pub mod Written

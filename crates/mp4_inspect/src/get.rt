@@ -4,6 +4,9 @@ ghost use Rattle.std.specs.Prelude.{◌≡◌, ◌+◌, ◌-◌, ◌<◌, ◌^�
 ghost use Rattle.std.specs.Prelude.{flat_map, IfOk, OnOk, IfSome, if◌then◌else◌};
 ghost use Rattle.std.specs.Io.KnownBytes.{Appends};
 ghost use Rattle.mp4_inspect.specs.Patterns.{bytes_at, bytes_of_box, got_of, has_box};
+ghost use Rattle.mp4_inspect.specs.Json.{IsJson};
+ghost use Rattle.mp4_inspect.specs.Trees.{WritesTrees, WritesTreesJson};
+ghost use Rattle.mp4_walk.specs.FileBoxes.{boxes_of};
 ghost use Rattle.mp4_walk.specs.Source.{piece};
 
 use crate::chosen::{boxes_at, trees_at};
@@ -222,12 +225,44 @@ fn write_text<B: Shown, S: Source, W: Write>(
     pattern: &Pattern,
     look: Look,
     output: &mut Output<W>,
-) -> Result<Got, Failure> {
+) -> Result<Got, Failure>
+    ensures trees { IfSome (S.all source)
+        (λ file. IfOk result
+        (WritesTrees B.known B.named_reading pattern.now file (W.contents output.old.inner)
+        (W.contents output.new.inner))) }
+{
     let (mut walk, boxes, tracks) = list_file(alloc, source)?;
     let shown = or_memory(trees_at(alloc, &boxes, pattern))?;
     let sink = TextSink::new(alloc, look);
     let faulty = write_tree::<B, S, W>(alloc, &mut walk, &shown, &tracks, sink, output)?;
     Ok(got_of(!shown.is_empty(), faulty))
+}
+
+/// Returns a walk over a source, and its boxes. Reads the headers of all boxes.
+fn listed<S: Source>(alloc: Global, source: S) -> Result<(BoxWalk<S>, Vec<TreeBox>), Failure>
+    ensures bytes { IfOk result (λ file. file.0.bytes ≡ S.all source) }
+    ensures boxes { IfSome (S.all source) (λ bytes. IfOk result (λ file. file.1.items ≡ boxes_of bytes)) }
+{
+    let mut walk = or_read(BoxWalk::new(alloc, source))?;
+    let boxes = or_read(walk.rest(alloc))?;
+    Ok((walk, boxes))
+}
+
+/// Writes the JSON of a file that has the boxes `shown`. Returns whether one of them has a fault.
+fn write_shown<B: Shown, S: Source, W: Write>(
+    alloc: Global,
+    walk: &mut BoxWalk<S>,
+    name: &str,
+    shown: &[TreeBox],
+    output: &mut Output<W>,
+) -> Result<bool, Failure>
+    ensures json { IfOk result (λ faulty. (text : List ℕ)
+        × IsJson B.known B.named_reading B.shown walk.old.bytes name.now shown.now text faulty
+        × Appends (W.contents output.old.inner) (W.contents output.new.inner) text) }
+{
+    let (text, faulty) = tree_json::<B, S>(alloc, walk, name, shown)?;
+    write_all(output, text.as_slice())?;
+    Ok(faulty)
 }
 
 /// Writes the trees of the boxes at `pattern` as JSON.
@@ -237,12 +272,15 @@ fn write_json<B: Shown, S: Source, W: Write>(
     source: S,
     pattern: &Pattern,
     output: &mut Output<W>,
-) -> Result<Got, Failure> {
-    let mut walk = or_read(BoxWalk::new(alloc, source))?;
-    let boxes = or_read(walk.rest(alloc))?;
+) -> Result<Got, Failure>
+    ensures trees { IfSome (S.all source)
+        (λ file. IfOk result
+        (WritesTreesJson B.known B.named_reading B.shown pattern.now name.now file (W.contents output.old.inner)
+        (W.contents output.new.inner))) }
+{
+    let (mut walk, boxes) = listed(alloc, source)?;
     let shown = or_memory(trees_at(alloc, &boxes, pattern))?;
-    let (text, faulty) = tree_json::<B, S>(alloc, &mut walk, name, &shown)?;
-    write_all(output, text.as_slice())?;
+    let faulty = write_shown::<B, S, W>(alloc, &mut walk, name, &shown, output)?;
     Ok(got_of(!shown.is_empty(), faulty))
 }
 
@@ -375,6 +413,16 @@ pub fn get_boxes<B: Shown, S: Source, W: Write>(
         → IfSome (S.all source)
         (λ file. IfOk result (λ found. Appends (W.contents output.old.inner) (W.contents output.new.inner)
         (bytes_at true get.now.pattern file) × (found ≡ got_of (has_box get.now.pattern file) false))) }
+    ensures tree { get.now.form ≡ GetForm.Tree
+        → IfSome (S.all source)
+        (λ file. IfOk result
+        (WritesTrees B.known B.named_reading get.now.pattern file (W.contents output.old.inner)
+        (W.contents output.new.inner))) }
+    ensures json { get.now.form ≡ GetForm.Json
+        → IfSome (S.all source)
+        (λ file. IfOk result
+        (WritesTreesJson B.known B.named_reading B.shown get.now.pattern name.now file (W.contents output.old.inner)
+        (W.contents output.new.inner))) }
 {
     match get.form {
         GetForm::Tree => write_text::<B, S, W>(alloc, source, &get.pattern, look, output),
