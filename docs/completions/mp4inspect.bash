@@ -9,7 +9,7 @@ _mp4inspect() {
         info) words="--json --help" ;;
         check) words="--json --strict --help" ;;
         get) words="--json --raw --content --field --help" ;;
-        samples) words="--track --json --csv --beyond --help" ;;
+        samples) words="--track --json --csv --beyond --seconds --edits --sync --segments --help" ;;
         help) words="info check samples get" ;;
         *) words="--json --all --rows --wide --help --version" ;;
     esac

@@ -59,11 +59,22 @@ def is_type(value, name):
     return isinstance(value, TYPES[name])
 
 
+def fits(value, schema, root):
+    """Returns whether `value` fits `schema`."""
+    try:
+        check_schema(value, schema, root)
+    except (StopIteration, ValueError):
+        return False
+    return True
+
+
 def check_schema(value, schema, root, path="$"):
     """Raises ValueError unless `value` fits `schema`. It knows only those parts of schemas that
     docs/inspect.schema.json uses."""
     while "$ref" in schema:
         schema = root["$defs"][schema["$ref"].removeprefix("#/$defs/")]
+    if "anyOf" in schema:
+        schema = next(it for it in schema["anyOf"] if fits(value, it, root))
     wanted = schema.get("type", [])
     wanted = [wanted] if isinstance(wanted, str) else wanted
     if wanted and not any(is_type(value, name) for name in wanted):

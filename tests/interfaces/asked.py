@@ -309,7 +309,7 @@ def samples(asked, answer):
     has a problem, and for each fragment of no track. With `--track` the first track of a track_ID has rows."""
     def wanted(track):
         return [(known(track.track_id), number, it.offset, it.size, it.time, it.time + it.shift, it.duration,
-                 int(it.is_sync), it.description)
+                 int(it.is_sync), it.description, known(track.timescale))
                 for number, it in enumerate(limited(rows_of(track).listed, len(asked.data))[0], 1)]
     known_tracks = [it for it in answer.tracks if isinstance(it.track_id, int)]
     out, said = asked.run("samples", "--csv")

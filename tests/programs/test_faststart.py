@@ -134,7 +134,7 @@ def samples_of(data):
     all its columns except its offset."""
     file, found = File(data), []
     for trak in file.tracks:
-        number, _, _, _ = file.track(trak)
+        number = file.track(trak)[0]
         table = trak
         for code in (b"mdia", b"minf", b"stbl"):
             table = next(it for it in inner(data, table) if it[0] == code)

@@ -37,7 +37,7 @@ from tests.files.made import in_chunks, in_fragment, in_runs
 from tests.files.stored import FILES, stored
 from tests.readers import check
 from tests.readers.inspect import document, every, is_escaped, is_faulty, lines, tree
-from tests.readers.samples import written
+from tests.readers.samples import segments, written
 
 USAGE = "Usage: "
 # Boxes of media and of free space, whose contents are not read. Of a hundred other boxes that have a name, at least
@@ -126,14 +126,29 @@ class Runs:
         self.same([json.dumps(it) for it in objects], [json.dumps({"file": "-", **it}) for it in found],
                   what + ", faults as JSON")
 
-    def sampled(self, data, what, chosen=None, path="-", beyond=False):
+    def sampled(self, data, what, chosen=None, path="-", beyond=False, seconds=False, sync=False, edits=False):
         """Compares the samples that the program shows for `data` in each form with the second computation: rows,
         faults, status."""
+        words = [] if chosen is None else ["--track", str(chosen)]
+        words += ["--beyond"] if beyond else []
+        words += ["--seconds"] if seconds else []
+        words += ["--sync"] if sync else []
+        words += ["--edits"] if edits else []
+        self.listed(data, what, words, lambda form: written(data, form, chosen, beyond, seconds, sync, edits), path)
+
+    def segmented(self, data, what, seconds=False):
+        """Compares the segments that the program shows for `data` in each form with the second computation."""
+        words = ["--segments", *["--seconds"] * seconds]
+        self.listed(data, what, words, lambda form: segments(data, form, seconds))
+
+    def listed(self, data, what, words, computed, path="-"):
+        """Compares the rows, the faults and the status of `samples` with `words` in each form with those that
+        `computed` returns for the form."""
         ends = {"input": data} if path == "-" else {}
+        options = words
         for form, words in (("text", []), ("csv", ["--csv"]), ("json", ["--json"])):
-            text, faults_, status = written(data, form, chosen, beyond)
-            words += [] if chosen is None else ["--track", str(chosen)]
-            words += ["--beyond"] if beyond else []
+            text, faults_, status = computed(form)
+            words += options
             done = self.run("samples", *words, path, **ends)
             if done.returncode != status:
                 fail(f"samples {words} of {what}: status {done.returncode} and not {status}, {done.stderr.decode()}")
@@ -418,6 +433,12 @@ def samples(runs, folder, files):
             runs.sampled(data, name, chosen)
         runs.sampled(data, name, None, os.path.basename(write_file(folder, "sampled.mp4", data)))
         runs.sampled(data, name, None, "-", True)
+        runs.sampled(data, name, seconds=True)
+        runs.sampled(data, name, sync=True)
+        runs.sampled(data, name, edits=True)
+        runs.sampled(data, name, seconds=True, edits=True)
+        runs.segmented(data, name)
+        runs.segmented(data, name, True)
     runs.sampled(b"", "an empty file")
     data = files["tables"]
     write_file(folder, "sampled.mp4", data)

@@ -1,21 +1,25 @@
-"""The samples of the tracks of a file a second time, by ISO/IEC 14496-12 only (8.2.1, 8.3.2, 8.4, 8.6.1, 8.6.2, 8.7.3
-to 8.7.5, 8.8), to compare `mp4inspect samples` with. It shares no line with the codec, nor with the other slow readers:
-tables are spelled out, a value for each sample, and chunks are filled one after the other.
+"""The samples of the tracks of a file a second time, by ISO/IEC 14496-12 only (8.2.1, 8.2.2, 8.3.2, 8.4, 8.6.1, 8.6.2,
+8.6.5, 8.6.6, 8.7.3 to 8.7.5, 8.8), to compare `mp4inspect samples` with. It shares no line with the codec, nor with the
+other slow readers: tables are spelled out, a value for each sample, and chunks are filled one after the other.
 
 The tracks of a file are those of its first `moov`. If two have the same track_ID, the first has the fragments, and is
 the one that `--track` names.
 
     written(data, form, track, beyond)   the output, the faults as the program prints them, and the status
+    segments(data, form, seconds)        the same, of a row for each `moof`
     disagreement(tables)                 how the tables of an `stbl` disagree, as `mp4inspect check` prints it
 """
 
+import fractions
 import functools
 import itertools
 import struct
 
-HEAD = "track,number,offset,size,decode_time,presentation_time,duration,sync,description\n"
+HEAD = "track,number,offset,size,decode_time,presentation_time,duration,sync,description,timescale\n"
 COLUMNS = ["number", "offset", "size", "decode_time", "presentation_time", "duration", "sync", "description"]
 WIDTHS = [8, 12, 9, 12, 17, 9, 4, 11]
+SEGMENT_COLUMNS = ["number", "offset", "size", "track", "start", "duration"]
+SEGMENT_WIDTHS = [8, 12, 11, 10, 12, 12]
 # The most samples that are returned in a list, and the most without bytes that are listed in a row.
 MOST = 300000
 MOST_EMPTY = 2**20
@@ -443,9 +447,40 @@ class File:
             raise Bad(fault)
         return tables
 
-    def track(self, trak, beyond=True):
-        """Returns the number of a track, its heading, its samples, and a list of its faults. It has at most one fault
-        of its samples. If its number can't be read, that is another, and it has no fragments."""
+    def movie_timescale(self):
+        """Returns the timescale of the movie (8.2.2)."""
+        box = first(inner(self.data, self.moov), b"mvhd")
+        if box is None:
+            raise Bad("there is no mvhd")
+        version = box[2][0] if box[2] else 2
+        if not box[3] or version > 1 or len(box[2]) < (112 if version else 100):
+            raise Bad(None, box)
+        return struct.unpack_from(">I", box[2], 20 if version else 12)[0]
+
+    def edits(self, trak, scale):
+        """Returns the timescale of the movie, and the duration, the media time and the rate of each edit of a track
+        (8.6.5, 8.6.6). `scale` is the timescale of its media. Without a list or an edit in it, the track has one edit,
+        which has no end."""
+        movie, found = self.movie_timescale(), []
+        if isinstance(scale, Bad):
+            raise scale
+        parts = first(inner(self.data, trak), b"edts")
+        box = parts and first(inner(self.data, parts), b"elst")
+        if box is not None:
+            version = box[2][0] if box[2] else 2
+            if version > 1:
+                raise Bad(None, box)
+            found = entries(box, 8, ">QqHH" if version else ">IiHH")
+        if not movie or not scale or any(time < -1 or rate > 1 or rest for _, time, rate, rest in found):
+            raise Bad(None)
+        if sum(it[0] for it in found) >= 2**64:
+            raise Bad(None)
+        return movie, [it[:3] for it in found] or [(0, 0, 1)]
+
+    def track(self, trak, beyond=True, edits=False):
+        """Returns the number of a track, its timescale, its edits with the timescale of the movie if `edits` asks for
+        them, its heading, its samples, and a list of its faults. It has at most one fault of its edits or samples. If
+        its number can't be read, that is another, and it has no fragments."""
         number, name, scale = self.headers(trak)
         title, lost = f"track {number}", []
         if isinstance(number, Bad):
@@ -453,36 +488,89 @@ class File:
         if not isinstance(name, Bad):
             is_text = all(0x20 <= byte < 0x7F for byte in name)
             title += ", " + (name.decode() if is_text else str(int.from_bytes(name, "big")))
-        if not isinstance(scale, Bad):
+        read, scale = scale, None if isinstance(scale, Bad) else scale
+        if scale is not None:
             title += f", timescale {scale}"
         heading = f"{title}\n" + "  ".join(name.rjust(width) for name, width in zip(COLUMNS, WIDTHS)) + "\n"
         try:
+            shown = self.edits(trak, read) if edits else None
             tables = self.tables(trak)
         except Bad as bad:
-            return number, "", [], [*lost, bad.args[0]]
+            return number, scale, None, "", [], [*lost, bad.args[0]]
         samples, found = self.listed(number, tables, beyond)
-        return number, heading, samples, lost + found
+        return number, scale, shown, heading, samples, lost + found
 
 
-def row(form, track, number, sample):
-    offset, size, time, duration, shift, is_sync, description = sample
-    values = [number, offset, size, time, time + shift, duration, int(is_sync), description]
+def in_seconds(time, scale):
+    """Returns a time in seconds, rounded to the nearest millionth. A half is rounded away from 0."""
+    if not scale:
+        return None
+    rounded = int(fractions.Fraction(abs(time) * 1000000, scale) + fractions.Fraction(1, 2))
+    return f"{'-' if time < 0 else ''}{rounded // 1000000}.{rounded % 1000000:06}"
+
+
+def presented(movie, edits, scale, time):
+    """Returns the seconds after which edits first present the time `time` of the media, or None if none does."""
+    begin = fractions.Fraction(0)
+    for index, (duration, start, rate) in enumerate(edits):
+        lasts, passed = fractions.Fraction(duration, movie), fractions.Fraction(time - start, scale)
+        is_open = index + 1 == len(edits) and duration == 0 and rate == 1
+        if start >= 0 and (passed == 0 and lasts > 0 if rate == 0 else passed >= 0 and (is_open or passed < lasts)):
+            return begin + passed
+        begin += lasts
+    return None
+
+
+def presentation(time, scale, shown, seconds):
+    """Returns the presentation time of a sample with the composition time `time`, by the edits `shown` or without any.
+    It is None if it is unknown."""
+    if shown is None:
+        return in_seconds(time, scale) if seconds else time
+    at = presented(*shown, scale, time) if 0 <= time < 2**64 else None
+    if at is None:
+        return None
+    return in_seconds(at, 1) if seconds else int(at * scale)
+
+
+def joined(form, names, values):
+    """Returns a row as CSV or JSON. A value that isn't known is empty or null."""
     if form == "csv":
-        return ",".join(map(str, ["" if track is None else track, *values])) + "\n"
+        return ",".join("" if value is None else str(value) for value in values) + "\n"
+    words = ["null" if value is None else str(value) for value in values]
+    return "{" + ", ".join(f'"{name}": {word}' for name, word in zip(names, words)) + "}"
+
+
+def aligned(values, widths):
+    """Returns a row as text. A value that isn't known is a dash."""
+    return "  ".join(("-" if value is None else str(value)).rjust(width) for value, width in zip(values, widths)) + "\n"
+
+
+def whole(form, head, pieces):
+    """Returns the output of a form with these rows. `head` is the line of names of CSV."""
     if form == "json":
-        track = "null" if track is None else track
-        return "{" + ", ".join(f'"{name}": {value}' for name, value in zip(["track", *COLUMNS], [track, *values])) + "}"
-    return "  ".join(str(value).rjust(width) for value, width in zip(values, WIDTHS)) + "\n"
+        return "[" + "".join((",\n" if index else "\n") + piece for index, piece in enumerate(pieces)) + "\n]\n"
+    return (head if form == "csv" else "") + "".join(pieces)
 
 
-def written(data, form, chosen=None, beyond=False):
-    """Returns the output, the faults and the status. A fault is the track's number, if it is known, and the text, if it
-    is not the codec's."""
+def row(form, track, scale, shown, number, sample, seconds):
+    """Returns the row of a sample."""
+    offset, size, time, duration, shift, is_sync, description = sample
+    decoded, lasts = (in_seconds(it, scale) if seconds else it for it in (time, duration))
+    values = [number, offset, size, decoded, presentation(time + shift, scale, shown, seconds), lasts, int(is_sync),
+              description]
+    if form == "text":
+        return aligned(values, WIDTHS)
+    return joined(form, ["track", *COLUMNS, "timescale"], [track, *values, scale])
+
+
+def written(data, form, chosen=None, beyond=False, seconds=False, sync=False, edits=False):
+    """Returns the output, the faults and the status, with times in seconds, for sync samples only, or with presentation
+    times by edit lists. A fault is the track's number, if it is known, and the text, if it is not the codec's."""
     file, pieces, faults = File(data), [], []
     faults += [(None, words) for words in file.faults]
     met = set()
     for trak in file.tracks:
-        number, heading, samples, found = file.track(trak, beyond)
+        number, scale, shown, heading, samples, found = file.track(trak, beyond, edits)
         if number is None:
             found = [words and f"trak at {trak[1]}: {words}" for words in found[:1 if chosen is not None else None]]
         if number is None and chosen is not None:
@@ -490,7 +578,8 @@ def written(data, form, chosen=None, beyond=False):
         elif chosen is None or chosen == number and number not in met:
             if form == "text" and heading:
                 pieces.append(("\n" if pieces else "") + heading)
-            pieces += [row(form, number, index, sample) for index, sample in enumerate(samples, 1)]
+            pieces += [row(form, number, scale, shown, index, sample, seconds)
+                       for index, sample in enumerate(samples, 1) if sample[5] or not sync]
             faults += [(number, words) for words in found]
         met.add(number)
         file.fragments.pop(number, None)
@@ -499,10 +588,71 @@ def written(data, form, chosen=None, beyond=False):
         faults.append((chosen, "there is no trak"))
     if not file.is_movie:
         faults.append((None, "there is no moov, and no moof"))
-    if form == "csv":
-        text = HEAD + "".join(pieces)
-    elif form == "json":
-        text = "[" + "".join((",\n" if index else "\n") + piece for index, piece in enumerate(pieces)) + "\n]\n"
-    else:
-        text = "".join(pieces)
-    return text, faults, int(bool(faults))
+    return whole(form, HEAD, pieces), faults, int(bool(faults))
+
+
+def ends_before(file):
+    """Returns the timescale of each track_ID, and the time at which the samples of its tables end. The first track of a
+    track_ID counts. A value that can't be read is None."""
+    known = {}
+    for trak in file.tracks:
+        number, _, scale = file.headers(trak)
+        if isinstance(number, Bad) or number in known:
+            continue
+        try:
+            table = trak
+            for code in (b"mdia", b"minf", b"stbl"):
+                table = first(inner(file.data, table), code)
+                if table is None:
+                    raise Bad(None)
+            end = table_time(tables_of(file.data, table))
+        except Bad:
+            end = None
+        known[number] = [None if isinstance(scale, Bad) else scale, end]
+    return known
+
+
+def segments(data, form, seconds=False):
+    """Returns the output, the faults and the status of a row for each `moof`, with times in seconds if `seconds`."""
+    file, pieces = File(data), []
+    faults = [(None, words) for words in file.faults[:len(file.faults) - len(file.lost)]]
+    known, top = ends_before(file), boxes(data, 0, len(data), True)
+    trafs = {traf[1]: (track, header, base) for track, found in file.fragments.items()
+             for _, traf, header, base in found}
+    lost = {traf[1]: bad for _, traf, bad in file.lost}
+    moofs = [index for index, box in enumerate(top) if box[0] == b"moof"]
+    for number, (index, after) in enumerate(zip(moofs, [*moofs[1:], None]), 1):
+        moof, first_one = top[index], None
+        ends = [box[4] + len(box[2]) for box in [moof, *(box for box in top[index + 1:] if box[0] == b"mdat")]]
+        size = (ends[-1] if after is None else top[after][1]) - moof[1]
+        for order, traf in enumerate(box for box in inner(data, moof) if box[0] == b"traf"):
+            try:
+                if traf[1] in lost:
+                    raise lost[traf[1]]
+                track, header, base = trafs[traf[1]]
+                begin, runs = file.fragment_of(track, traf, base, f"moof at {moof[1]}: ")
+            except Bad as bad:
+                faults.append((None, bad.args[0] and f"moof at {moof[1]}: {bad.args[0]}"))
+                continue
+            default = {**file.defaults[track], **header}["duration"]
+            lasts = sum(sum(it.get("duration", default) for it in rows) if isinstance(rows, list) else count * default
+                        for _, count, rows in runs)
+            lasts = min(lasts, 2**64 - 1)
+            scale, end = known.setdefault(track, [None, None])
+            start = end if begin is None else begin
+            if order == 0:
+                first_one = [track, start, lasts, scale]
+            known[track][1] = None if start is None else min(start + lasts, 2**64 - 1)
+        track, start, lasts, scale = first_one or [None] * 4
+        if seconds:
+            start, lasts = (None if it is None else in_seconds(it, scale) for it in (start, lasts))
+        values = [number, moof[1], size, track, start, lasts]
+        if form == "text":
+            pieces.append(aligned(values, SEGMENT_WIDTHS))
+        else:
+            pieces.append(joined(form, [*SEGMENT_COLUMNS, "timescale"], [*values, scale]))
+    if not file.is_movie:
+        faults.append((None, "there is no moov, and no moof"))
+    if form == "text":
+        pieces.insert(0, aligned(SEGMENT_COLUMNS, SEGMENT_WIDTHS))
+    return whole(form, ",".join(SEGMENT_COLUMNS) + ",timescale\n", pieces), faults, int(bool(faults))

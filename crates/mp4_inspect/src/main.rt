@@ -82,6 +82,10 @@ fn choice_of(request: &Request) -> Choice {
         },
         track: request.track,
         beyond: request.beyond,
+        seconds: request.options.seconds,
+        edits: request.options.edits,
+        sync: request.options.sync,
+        segments: request.options.segments,
     }
 }
 

@@ -277,7 +277,7 @@ fn show_info_json<S: Source, W: Write>(
     Ok(!is_known(&facts))
 }
 
-/// Writes the samples of a source, and stores the faults of its tracks. Returns whether a fault is stored.
+/// Writes the samples or segments of a source, and stores its faults. Returns whether a fault is stored.
 fn show_samples<S: Source, W: Write>(
     alloc: Global,
     source: S,

@@ -58,6 +58,27 @@ pub struct Place {
     pub field: String,
 }
 
+/// The options of `samples` about times, and about which rows are written.
+#[derive(Clone, Copy, Debug, PartialEq, Eq)]
+pub struct SampleOptions {
+    /// Asks for times in seconds.
+    pub seconds: bool,
+    /// Asks for presentation times by the edit lists of the tracks.
+    pub edits: bool,
+    /// Asks for sync samples only.
+    pub sync: bool,
+    /// Asks for a row for each `moof` instead of each sample.
+    pub segments: bool,
+}
+
+/// Ticks without edits, for all samples.
+const ALL_SAMPLES: SampleOptions = SampleOptions {
+    seconds: false,
+    edits: false,
+    sync: false,
+    segments: false,
+};
+
 /// A request to show files.
 #[derive(Debug, Drop)]
 pub struct Request {
@@ -73,6 +94,8 @@ pub struct Request {
     pub track: Option<u32>,
     /// Asks for all samples, including those past the end of the file.
     pub beyond: bool,
+    /// The options about times and rows of samples.
+    pub options: SampleOptions,
     /// The form of faults, and which of them count.
     pub checks: Checks,
     /// The files, in order; `-` is the standard input. A name that is not UTF-8 has a mark.
@@ -146,17 +169,34 @@ fn file<'a>(alloc: Global) -> Arg<'a> {
         .help("File to read; - is the standard input")
 }
 
+/// Returns the option `segments`, which excludes those that choose samples.
+fn segments_option<'a>(alloc: Global, help: &'a str) -> Result<Arg<'a>, AllocError> {
+    flag(alloc, "segments", help)
+        .conflicts_with("track")?
+        .conflicts_with("beyond")?
+        .conflicts_with("edits")?
+        .conflicts_with("sync")
+}
+
 /// Returns the command `samples`.
 fn samples<'a>(alloc: Global) -> Result<Command<'a>, AllocError> {
     let json = "Print an array of JSON objects";
     let csv = "Print a line of names, then lines of numbers, separated by commas";
     let beyond = "Print also the samples past the end of the file";
+    let seconds = "Print times in seconds";
+    let edits = "Print presentation times by the edit lists";
+    let sync = "Print only sync samples (key frames)";
+    let segments = "Print the bytes, start and duration of each fragment instead of samples";
     Command::new(alloc, "samples")
         .about("Print the offset, size and times of each sample of the tracks, one a line")
         .arg(number(alloc, "track", "Print only the samples of track N"))?
         .arg(flag_without(alloc, "json", json, "csv")?)?
         .arg(flag(alloc, "csv", csv))?
         .arg(flag(alloc, "beyond", beyond))?
+        .arg(flag(alloc, "seconds", seconds))?
+        .arg(flag(alloc, "edits", edits))?
+        .arg(flag(alloc, "sync", sync))?
+        .arg(segments_option(alloc, segments)?)?
         .arg(file(alloc))
 }
 
@@ -236,6 +276,7 @@ fn check_of(alloc: Global, matches: &ArgMatches<'_>) -> Result<Request, AllocErr
         samples: Rows::Text,
         track: None,
         beyond: false,
+        options: ALL_SAMPLES,
         checks: Checks {
             json: matches.get_flag("json"),
             strict: matches.get_flag("strict"),
@@ -258,6 +299,7 @@ fn info_of(alloc: Global, matches: &ArgMatches<'_>) -> Result<Request, AllocErro
         samples: Rows::Text,
         track: None,
         beyond: false,
+        options: ALL_SAMPLES,
         checks: PLAIN,
         files: files_of(alloc, matches)?,
         place: None,
@@ -280,6 +322,12 @@ fn samples_of(alloc: Global, matches: &ArgMatches<'_>) -> Result<Request, AllocE
         samples,
         track: matches.get_one::<u32>("track"),
         beyond: matches.get_flag("beyond"),
+        options: SampleOptions {
+            seconds: matches.get_flag("seconds"),
+            edits: matches.get_flag("edits"),
+            sync: matches.get_flag("sync"),
+            segments: matches.get_flag("segments"),
+        },
         checks: PLAIN,
         files: files_of(alloc, matches)?,
         place: None,
@@ -320,6 +368,7 @@ fn get_of(alloc: Global, matches: &ArgMatches<'_>) -> Result<Request, AllocError
         samples: Rows::Text,
         track: None,
         beyond: false,
+        options: ALL_SAMPLES,
         checks: PLAIN,
         files: files_of(alloc, matches)?,
         place: Some(Place {
@@ -348,6 +397,7 @@ fn tree_of(alloc: Global, matches: &ArgMatches<'_>) -> Result<Request, AllocErro
         samples: Rows::Text,
         track: None,
         beyond: false,
+        options: ALL_SAMPLES,
         checks: PLAIN,
         files: files_of(alloc, matches)?,
         place: None,

@@ -49,8 +49,8 @@ file_written choice file boxes movie parts old begun written new before one two 
       told = tracks.told;
       met = tracks.met;
       tracks = subst (λ (m : List TreeBox).
-          WritesTracks (inputs_of file choice parts) []
-          (all_in 1 (four_cc_of codes.TRAK) m) parts.infos.items false begun
+          WritesTracks (inputs_of file choice parts) m [] (all_in 1 (four_cc_of codes.TRAK) m) parts.infos.items false
+          begun
           written tracks.told tracks.met)
           (inner ∙ ap (λ (bs : List TreeBox). after_of (first_in 0 (four_cc_of codes.MOOV) bs)) same) tracks.writes;
       absent = absent.0;

@@ -2,5 +2,8 @@ pub mod FileSteps
 pub mod Outcomes
 pub mod RowLists
 pub mod RunCounts
+pub mod RunDurations
+pub mod SegmentLists
+pub mod TimeLists
 pub mod TrackLists
 pub mod TrafLists

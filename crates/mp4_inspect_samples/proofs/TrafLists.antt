@@ -89,8 +89,8 @@ no_answers file moof [] = refl
 no_answers file moof (f ∷ fs) = refl
 
 pub trafs_start : (file : List ℕ) (moof : ℕ) (boxes : List TreeBox)
-    (answers left : List (Result TrackFragment BoxError))
-    (f : Fragments) (a : List TrackFault) → left ≡ answers → TrafsSoFar file moof boxes answers f a boxes left f a
+    (answers left : List (Result TrackFragment BoxError)) (f : Fragments) (a : List TrackFault) → left ≡ answers
+    → TrafsSoFar file moof boxes answers f a boxes left f a
 trafs_start file moof boxes answers left f a is = λ h c e.
     subst (λ (rs : List (Result TrackFragment BoxError)).
     Enters (trafs_in file moof (all_in 1 (four_cc_of codes.TRAF) boxes) rs) f h a c) is e
@@ -109,8 +109,8 @@ trafs_next file moof boxes rest answers left more r x f g g2 a b b2 is cut one k
     ∙ ap (λ (rs : List (Result TrackFragment BoxError)). trafs_in file moof (x ∷ all_in 1 code x.after) rs) cut in
     known h c
     (subst (λ (ts : List Traf). Enters ts g h b c) (sym same)
-    (enters_more (traf_at file moof x.after r ∷ []) (trafs_in file moof (all_in 1 code x.after) more) g g2 h b b2 c
-    one e))
+    (enters_more (traf_at file moof x.after r ∷ []) (trafs_in file moof (all_in 1 code x.after) more) g g2 h b b2 c one
+    e))
 
 -- no answer is left
 pub trafs_answered : (file : List ℕ) (moof : ℕ) (boxes rest : List TreeBox)

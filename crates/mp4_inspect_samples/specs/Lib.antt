@@ -1,7 +1,12 @@
+pub mod Chosen
+pub mod EditParts
 pub mod Listed
 pub mod Row
 pub mod RowText
 pub mod Rows
 pub mod Samples
+pub mod SegmentText
+pub mod Segments
+pub mod Times
 pub mod Tracks
 pub mod Trafs

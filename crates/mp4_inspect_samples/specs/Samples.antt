@@ -1,5 +1,5 @@
 -- The samples of a file: the rows of its tracks, and the faults because of which samples are not listed.
-use Rattle.std.specs.Prelude.{◌≡◌, ℕ, ◌==◌, ◌&&◌, ◌||◌, not, Bool, true, false, is_some, is_none, List, [], ◌∷◌, ◌++◌}
+use Rattle.std.specs.Prelude.{◌≡◌, ℕ, ◌==◌, ◌&&◌, ◌||◌, not, Bool, true, false, is_some, List, [], ◌∷◌, ◌++◌}
 use Rattle.std.specs.Prelude.{length, map, Result, Ok, Err, None, Some, if◌then◌else◌}
 use Rattle.std.specs.BTreeMap.{get}
 use Rattle.std.specs.Io.KnownBytes.{Appends}
@@ -12,7 +12,7 @@ use Rattle.mp4_frame.specs.declared.codes.TheConstants as codes
 use Rattle.mp4_movie.specs.Defaults.{AreFaults, trexes}
 use Rattle.mp4_movie.specs.Fragments.{AreFragments}
 use Rattle.mp4_movie.specs.Infos.{AreInfos}
-use Rattle.mp4_movie.specs.Levels.{Found, all_in, first_in}
+use Rattle.mp4_movie.specs.Levels.{Found, after_of, all_in, first_in}
 use Rattle.mp4_movie.specs.Movies.{samples_of, traks}
 use Rattle.mp4_movie.specs.declared.error.BoxError.{BoxError}
 use Rattle.mp4_movie.specs.declared.error.BoxError.TheVariants as errors
@@ -20,7 +20,7 @@ use Rattle.mp4_movie.specs.declared.info.TrackInfo.{TrackInfo}
 use Rattle.mp4_walk.specs.FileBoxes.{boxes_of}
 use Rattle.mp4_walk.specs.declared.tree_box.TreeBox.{TreeBox}
 use Rattle.mp4_inspect_samples.specs.Rows.{end_text, front_text}
-use Rattle.mp4_inspect_samples.specs.Tracks.{WritesNothing, WritesTrack}
+use Rattle.mp4_inspect_samples.specs.Tracks.{TrackInputs, WritesNothing, WritesTimed}
 use Rattle.mp4_inspect_samples.specs.Trafs.{Traf, added, header_faults, stored_for, trafs_of, with_id}
 use Rattle.mp4_inspect_samples.specs.declared.choice.Choice.{Choice}
 use Rattle.mp4_inspect_samples.specs.declared.fault.Fault.{Fault}
@@ -89,35 +89,54 @@ abbrev pub track_fault : TrackName → Option Fault → List TrackFault
 track_fault name None = []
 track_fault name (Some e) = record { track = Some name; fault = e } ∷ []
 
+-- the timescale of media, if it was read
+abbrev pub read_scale : Result ℕ BoxError → Option ℕ
+read_scale (Ok ticks) = Some ticks
+read_scale (Err _) = None
+
+-- what the rows of a track need besides its edit list
+abbrev pub inputs_at : Inputs → List ℕ → TrackName → Result ℕ BoxError → List TreeBox → TrackInputs
+inputs_at i met name media trak = record {
+  limit = limit_of i.choice i.file;
+  form = i.choice.form;
+  choice = i.choice;
+  name = name;
+  timescale = read_scale media;
+  trafs = trafs_for i.trafs met name;
+  tables = samples_of i.file trak;
+}
+
 -- the rows of a track, if they are asked for, and its fault
-abbrev pub WritesIf : Bool → Inputs → List ℕ → TrackName → List TreeBox → Bool → Bool → Option (List ℕ)
-    → Option (List ℕ) → List TrackFault → Type 0
-WritesIf true i met name trak follows is_followed old new told =
+abbrev pub WritesIf : Bool → Inputs → List TreeBox → List ℕ → TrackName → Result ℕ BoxError → List TreeBox → Bool
+    → Bool → Option (List ℕ) → Option (List ℕ) → List TrackFault → Type 0
+WritesIf true i movie met name media trak follows is_followed old new told =
     (fault : Option Fault)
-    × WritesTrack (limit_of i.choice i.file) i.choice.form name (trafs_for i.trafs met name) (samples_of i.file trak)
-    follows is_followed old new fault
+    × WritesTimed i.choice.edits i.file movie trak media (inputs_at i met name media trak) follows is_followed old new
+    fault
     × (told ≡ track_fault name fault)
-WritesIf false i met name trak follows is_followed old new told =
+WritesIf false i movie met name media trak follows is_followed old new told =
     (told ≡ []) × WritesNothing follows is_followed old new
 
--- a track is written and its faults are stored, if the tracks before it have these track_IDs
-abbrev pub WritesOne : Inputs → List ℕ → List TreeBox → TrackInfo → Bool → Bool → Option (List ℕ) → Option (List ℕ)
-    → List TrackFault → Type 0
-WritesOne i met trak info follows is_followed old new told =
+-- a track is written and its faults are stored, if the tracks before it have these track_IDs. `movie` begins with the
+-- boxes inside the moov
+abbrev pub WritesOne : Inputs → List TreeBox → List ℕ → List TreeBox → TrackInfo → Bool → Bool → Option (List ℕ)
+    → Option (List ℕ) → List TrackFault → Type 0
+WritesOne i movie met trak info follows is_followed old new told =
     let name = named info.position info.track_id in
     (rest : List TrackFault)
-    × WritesIf (is_wanted i.choice.track met name) i met name trak follows is_followed old new rest
+    × WritesIf (is_wanted i.choice.track met name) i movie met name info.timescale trak follows is_followed old new rest
     × (told ≡ name_faults info.position info.track_id ++ rest)
 
 -- these tracks are written, one after the other, and their faults are stored. `last` has the track_IDs after them
-abbrev pub WritesTracks : Inputs → List ℕ → List Found → List TrackInfo → Bool → Option (List ℕ) → Option (List ℕ)
+abbrev pub WritesTracks : Inputs → List TreeBox → List ℕ → List Found → List TrackInfo → Bool → Option (List ℕ)
+    → Option (List ℕ)
     → List TrackFault → List ℕ → Type 0
-WritesTracks i met [] infos follows old new told last = (new ≡ old) × (told ≡ []) × (last ≡ met)
-WritesTracks i met (f ∷ fs) [] follows old new told last = (new ≡ old) × (told ≡ []) × (last ≡ met)
-WritesTracks i met (f ∷ fs) (info ∷ infos) follows old new told last =
+WritesTracks i movie met [] infos follows old new told last = (new ≡ old) × (told ≡ []) × (last ≡ met)
+WritesTracks i movie met (f ∷ fs) [] follows old new told last = (new ≡ old) × (told ≡ []) × (last ≡ met)
+WritesTracks i movie met (f ∷ fs) (info ∷ infos) follows old new told last =
     (between : Bool) × (mid : Option (List ℕ)) × (one more : List TrackFault)
-    × WritesOne i met f.after info follows between old mid one
-    × WritesTracks i (with_name met (named info.position info.track_id)) fs infos between mid new more last
+    × WritesOne i movie met f.after info follows between old mid one
+    × WritesTracks i movie (with_name met (named info.position info.track_id)) fs infos between mid new more last
     × (told ≡ one ++ more)
 
 -- faults with this property are stored after those before
@@ -135,7 +154,7 @@ pub record EntersTracks (i : Inputs) (movie : List TreeBox) (infos : List TrackI
     (before after : List TrackFault) (ahead : Ahead) : Type 0 where
   pub told : List TrackFault
   pub met : List ℕ
-  pub writes : WritesTracks i [] (all_in 1 (four_cc_of codes.TRAK) movie) infos false old new told met
+  pub writes : WritesTracks i movie [] (all_in 1 (four_cc_of codes.TRAK) movie) infos false old new told met
   pub told_is : after ≡ before ++ told
   pub ahead_is : IsAhead i.trafs met ahead
 
@@ -161,8 +180,8 @@ AreMissing (Some q) trafs met told = told ≡ (if is_met q met then [] else miss
 
 -- a file has a `moov` or a `moof`
 abbrev pub is_movie : List TreeBox → Bool
-is_movie boxes = is_some (first_in 0 (four_cc_of codes.MOOV) boxes) || is_some
-    (first_in 0 (four_cc_of codes.MOOF) boxes)
+is_movie boxes =
+    is_some (first_in 0 (four_cc_of codes.MOOV) boxes) || is_some (first_in 0 (four_cc_of codes.MOOF) boxes)
 
 abbrev pub movie_faults : List TreeBox → List TrackFault
 movie_faults boxes = if is_movie boxes then [] else record { track = None; fault = faults.NoMovie } ∷ []
@@ -171,6 +190,10 @@ abbrev pub box_fault : BoxError → TrackFault
 box_fault e = record { track = None; fault = faults.Box e }
 
 -- ---- the file
+
+-- the boxes after the header of the first moov
+abbrev pub movie_in : List TreeBox → List TreeBox
+movie_in boxes = after_of (first_in 0 (four_cc_of codes.MOOV) boxes)
 
 -- the parts of the movie of a file: the faults of its `trex` boxes, the fragments of each `moof`, the headers of the
 -- tracks
@@ -198,7 +221,8 @@ pub record WritesSamples (choice : Choice) (file : List ℕ) (old new : Option (
   pub written : Option (List ℕ)
   pub told : List TrackFault
   pub met : List ℕ
-  pub tracks : WritesTracks (inputs_of file choice parts) [] (traks (boxes_of file)) parts.infos.items false begun
+  pub tracks : WritesTracks (inputs_of file choice parts) (movie_in (boxes_of file)) []
+      (traks (boxes_of file)) parts.infos.items false begun
       written told met
   pub absent : List TrackFault
   pub are_absent : AreMissing choice.track (trafs_by file parts) met absent

@@ -11,4 +11,12 @@ pub struct Choice {
     pub track: Option<u32>,
     /// Asks for all samples, past the end of the file too.
     pub beyond: bool,
+    /// Asks for times in seconds.
+    pub seconds: bool,
+    /// Asks for presentation times by the edit lists of the tracks.
+    pub edits: bool,
+    /// Asks for sync samples only.
+    pub sync: bool,
+    /// Asks for a row for each `moof` instead of each sample.
+    pub segments: bool,
 }

@@ -5,7 +5,7 @@ ghost use Rattle.mp4_inspect_samples.specs.Tracks.{id_of};
 
 use crate::limit::Unlisted;
 use mp4_movie::BoxError;
-use mp4_samples::{Disagreement, FragmentFault};
+use mp4_samples::{Disagreement, EditFault, FragmentFault};
 use std::fmt;
 
 /// A fault because of which samples of a file are not listed. Positions are in bytes.
@@ -26,6 +26,9 @@ pub enum Fault {
     /// A sample of a fragment in the `moof` at this position has a fault.
     #[error("moof at {0}: {1}")]
     Fragment(u64, FragmentFault),
+    /// The edit list of a track can't be used.
+    #[error("{0}")]
+    Edits(EditFault),
     /// Not all samples of a track are listed.
     #[error("{0}")]
     Unlisted(Unlisted),

@@ -12,10 +12,9 @@ ghost use Rattle.mp4_tables.specs.declared.tfhd.TfhdBox.{TfhdBox};
 ghost use Rattle.mp4_tables.specs.declared.trun.TrunBox.{TrunBox};
 ghost use Rattle.mp4_walk.specs.declared.tree_box.TreeBox.{TreeBox};
 ghost use Rattle.mp4_inspect_samples.specs.Trafs.{AreStored, Enters, added, count_in, counted, header_faults};
-ghost use Rattle.mp4_inspect_samples.specs.Trafs.{header_id};
-ghost use Rattle.mp4_inspect_samples.specs.Trafs.{id_in, id_of_traf, list_of, samples_without, stored_for, stored_of};
-ghost use Rattle.mp4_inspect_samples.specs.Trafs.{traf_at};
-ghost use Rattle.mp4_inspect_samples.specs.Trafs.{trafs_in, trafs_of, trafs_of_moofs, unknown_fault};
+ghost use Rattle.mp4_inspect_samples.specs.Trafs.{header_id, id_in, id_of_traf, list_of, samples_without, stored_for};
+ghost use Rattle.mp4_inspect_samples.specs.Trafs.{stored_of, traf_at, trafs_in, trafs_of, trafs_of_moofs};
+ghost use Rattle.mp4_inspect_samples.specs.Trafs.{unknown_fault};
 
 use crate::fault::{Fault, TrackFault};
 use crate::limit::samples_in;

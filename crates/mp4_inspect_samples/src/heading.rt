@@ -26,7 +26,7 @@ pub fn write_front<W: Write>(form: Form, output: &mut Output<W>) -> Result<(), F
         Form::Text => Ok(()),
         Form::Csv => write_all(
             output,
-            b"track,number,offset,size,decode_time,presentation_time,duration,sync,description\n",
+            b"track,number,offset,size,decode_time,presentation_time,duration,sync,description,timescale\n",
         ),
         Form::Json => write_all(output, b"["),
     }

@@ -3,6 +3,9 @@
 #![tactic(auto)]
 
 mod choice;
+mod clock;
+mod durations;
+mod edits;
 mod fault;
 mod fragments;
 mod heading;
@@ -13,8 +16,12 @@ mod row;
 mod row_text;
 mod rows;
 mod samples_of_file;
+mod segment_text;
+mod segments;
 mod tables;
+mod time_text;
 mod track;
+mod track_times;
 mod tracks;
 
 pub use choice::Choice;

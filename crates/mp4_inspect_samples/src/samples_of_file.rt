@@ -5,6 +5,7 @@ ghost use Rattle.mp4_frame.specs.FourCC.{four_cc_of};
 ghost use Rattle.mp4_frame.specs.declared.codes.TheConstants as names;
 ghost use Rattle.mp4_movie.specs.Levels.{after_of, first_in};
 ghost use Rattle.mp4_walk.specs.FileBoxes.{boxes_of};
+ghost use Rattle.mp4_inspect_samples.specs.Chosen.{WritesChosen};
 ghost use Rattle.mp4_inspect_samples.specs.Samples.{AreParts, WritesSamples, box_fault, is_movie, limit_of};
 ghost use Rattle.mp4_inspect_samples.specs.Samples.{movie_faults};
 
@@ -14,6 +15,7 @@ use crate::fragments::fragments_of;
 use crate::heading::{write_end, write_front};
 use crate::limit::Limit;
 use crate::lists::keep;
+use crate::segments::write_segments;
 use crate::tracks::{Ahead, keep_absent, write_tracks};
 use mp4_frame::codes::{MOOF, MOOV};
 use mp4_io::{Failure, Output, or_read};
@@ -52,7 +54,7 @@ fn parts_of<S: Source>(alloc: Global, movie: &mut Movie<S>) -> Result<MovieParts
 }
 
 /// Stores the fault of each `trex` that has one. The fragments of its track have no defaults then.
-fn keep_errors(errors: Vec<BoxError>, faults: &mut Vec<TrackFault>) -> Result<(), AllocError>
+pub fn keep_errors(errors: Vec<BoxError>, faults: &mut Vec<TrackFault>) -> Result<(), AllocError>
     ensures { OnOk result (faults.new.items ≡ faults.old.items ++ map box_fault errors.items) }
 {
     for error in errors {
@@ -66,7 +68,7 @@ fn keep_errors(errors: Vec<BoxError>, faults: &mut Vec<TrackFault>) -> Result<()
 }
 
 /// Returns the boxes after the header of the first `moov` in `boxes`, or none if there is no `moov`.
-fn movie_in(boxes: &[TreeBox]) -> &[TreeBox]
+pub fn movie_in(boxes: &[TreeBox]) -> &[TreeBox]
     ensures { result.now ≡ after_of (first_in 0 (four_cc_of names.MOOV) boxes.now) }
 {
     match first_in(boxes, 0, MOOV) {
@@ -83,7 +85,7 @@ fn is_movie(boxes: &[TreeBox]) -> bool
 }
 
 /// Stores the fault of a file with the boxes `boxes` that has no `moov` and no `moof`.
-fn keep_no_movie(boxes: &[TreeBox], faults: &mut Vec<TrackFault>) -> Result<(), AllocError>
+pub fn keep_no_movie(boxes: &[TreeBox], faults: &mut Vec<TrackFault>) -> Result<(), AllocError>
     ensures { OnOk result (faults.new.items ≡ faults.old.items ++ movie_faults boxes.now) }
 {
     if is_movie(boxes) {
@@ -97,7 +99,7 @@ fn keep_no_movie(boxes: &[TreeBox], faults: &mut Vec<TrackFault>) -> Result<(), 
 }
 
 /// Returns the rule by which the samples of the file that `walk` walks over are listed.
-fn limit_of<S: Source>(walk: &BoxWalk<S>, choice: Choice) -> Limit
+pub fn limit_of<S: Source>(walk: &BoxWalk<S>, choice: Choice) -> Limit
     ensures { IfSome walk.now.bytes (λ file. result ≡ limit_of choice file) }
 {
     Limit {
@@ -143,7 +145,7 @@ fn write_parts<S: Source, W: Write>(
 /// Writes the samples of a file, a row for each. The rows of one track follow those of another. In a track the rows of
 /// its tables come first, then those of its fragments. The rows of a track end before the first sample that isn't
 /// listed. Stores the faults of tracks, and writes the samples of the other tracks. Needs memory for the boxes of the
-/// file and for the runs of all fragments.
+/// file and for the runs of all fragments. If `choice.segments` asks for it, writes a row for each `moof` instead.
 pub fn write_samples<S: Source, W: Write>(
     alloc: Global,
     source: S,
@@ -152,11 +154,15 @@ pub fn write_samples<S: Source, W: Write>(
     faults: &mut Vec<TrackFault>,
 ) -> Result<(), Failure>
     ensures samples { IfSome (S.all source)
-        (λ file. OnOk result (WritesSamples choice file (W.contents output.old.inner) (W.contents output.new.inner)
-        faults.old.items faults.new.items)) }
+        (λ file. OnOk result (WritesChosen choice.segments choice file (W.contents output.old.inner)
+        (W.contents output.new.inner) faults.old.items faults.new.items)) }
 {
     let mut movie = or_read(Movie::open(alloc, source))?;
     let parts = parts_of(alloc, &mut movie)?;
     let (mut walk, boxes) = movie.into_parts();
-    write_parts(alloc, &mut walk, &boxes, parts, choice, output, faults)
+    if choice.segments {
+        write_segments(alloc, &mut walk, &boxes, parts, choice, output, faults)
+    } else {
+        write_parts(alloc, &mut walk, &boxes, parts, choice, output, faults)
+    }
 }

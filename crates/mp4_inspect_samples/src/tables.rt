@@ -5,12 +5,14 @@ ghost use Rattle.std.specs.declared.option.Option.{Option};
 ghost use Rattle.mp4_movie.specs.Movies.{inside, sample_table, samples_of};
 ghost use Rattle.mp4_movie.specs.Problems.{Problem, Records, ReturnsBoxes, ReturnsFor};
 ghost use Rattle.mp4_movie.specs.declared.sample_boxes.SampleBoxes.{SampleBoxes};
+ghost use Rattle.mp4_inspect_samples.specs.Row.{labels_of};
 ghost use Rattle.mp4_inspect_samples.specs.Tracks.{WritesBoxes, WritesFirst, WritesHeadingOnly, WritesTables};
 
 use crate::fault::Fault;
 use crate::heading::{Heading, write_heading};
 use crate::limit::{Limit, unlisted_of};
 use crate::reached::Reached;
+use crate::row::RowRule;
 use crate::rows::{RowWriter, write_rows};
 use mp4_frame::FourCC;
 use mp4_frame::codes::{MDIA, MINF, STBL};
@@ -79,18 +81,19 @@ pub fn tables_of<S: Source>(
 fn write_agreed<W: Write>(
     tables: &SampleTables<'_>,
     heading: Heading,
+    rule: &RowRule<'_>,
     time: u64,
     limit: Limit,
     writer: &mut RowWriter,
     output: &mut Output<W>,
 ) -> Result<Reached, Failure>
     ensures writes { IfOk result
-        (WritesTables tables.now time limit writer.old.form heading.name writer.old.follows writer.new.follows
+        (WritesTables tables.now time limit writer.old.form (labels_of rule.now) writer.old.follows writer.new.follows
         (W.contents output.old.inner) (W.contents output.new.inner)) }
     ensures form { writer.new.form ≡ writer.old.form }
 {
     write_heading(heading, writer, output)?;
-    let end = write_rows(tables, heading.name.id(), limit, writer, output)?;
+    let end = write_rows(tables, rule, limit, writer, output)?;
     Ok(Reached {
         count: end.count,
         time,
@@ -104,19 +107,20 @@ fn write_agreed<W: Write>(
 fn write_tables<W: Write>(
     boxes: &SampleBoxes,
     heading: Heading,
+    rule: &RowRule<'_>,
     limit: Limit,
     writer: &mut RowWriter,
     output: &mut Output<W>,
 ) -> Result<Result<Reached, Fault>, Failure>
     ensures writes { IfOk result
-        (WritesBoxes boxes.now limit writer.old.form heading.name writer.old.follows writer.new.follows
+        (WritesBoxes boxes.now limit writer.old.form (labels_of rule.now) writer.old.follows writer.new.follows
         (W.contents output.old.inner) (W.contents output.new.inner)) }
     ensures form { writer.new.form ≡ writer.old.form }
 {
     let time = boxes.time_end();
     match SampleTables::new(boxes.tables()) {
         Ok(tables) => {
-            let reached = write_agreed(&tables, heading, time, limit, writer, output)?;
+            let reached = write_agreed(&tables, heading, rule, time, limit, writer, output)?;
             Ok(Ok(reached))
         }
         Err(disagreement) => Ok(Err(Fault::Tables(disagreement))),
@@ -148,17 +152,18 @@ fn write_no_rows<W: Write>(
 pub fn write_first<W: Write>(
     tables: Result<Option<SampleBoxes>, BoxError>,
     heading: Heading,
+    rule: &RowRule<'_>,
     limit: Limit,
     writer: &mut RowWriter,
     output: &mut Output<W>,
 ) -> Result<Result<Reached, Fault>, Failure>
     ensures writes { (r : Result (Option SampleBoxes) Problem) → Records tables r → IfOk result
-        (WritesFirst limit writer.old.form heading.name r writer.old.follows writer.new.follows
+        (WritesFirst limit writer.old.form (labels_of rule.now) r writer.old.follows writer.new.follows
         (W.contents output.old.inner) (W.contents output.new.inner)) }
     ensures form { writer.new.form ≡ writer.old.form }
 {
     match tables {
-        Ok(Some(boxes)) => write_tables(&boxes, heading, limit, writer, output),
+        Ok(Some(boxes)) => write_tables(&boxes, heading, rule, limit, writer, output),
         Ok(None) => write_no_rows(heading, writer, output),
         Err(error) => Ok(Err(Fault::Box(error))),
     }

@@ -2,15 +2,16 @@
 
 ghost use Rattle.std.specs.Prelude.{◌≡◌, IfOk, IfSome};
 ghost use Rattle.mp4_movie.specs.Movies.{samples_of};
+ghost use Rattle.mp4_inspect_samples.specs.Row.{labels_of};
 ghost use Rattle.mp4_inspect_samples.specs.Tracks.{WritesNext, WritesTraf, WritesTrack, WritesTrackFragment};
-ghost use Rattle.mp4_inspect_samples.specs.Tracks.{WritesTrafs};
-ghost use Rattle.mp4_inspect_samples.specs.Tracks.{fault_at_end, id_of, reached_after, with_more};
+ghost use Rattle.mp4_inspect_samples.specs.Tracks.{WritesTrafs, fault_at_end, reached_after, with_more};
 
 use crate::fault::Fault;
 use crate::fragments::TrackTraf;
 use crate::heading::Heading;
 use crate::limit::{Limit, Unlisted, samples_in, unlisted_of};
 use crate::reached::Reached;
+use crate::row::RowRule;
 use crate::rows::{FragmentEnd, RowWriter, write_fragment_rows};
 use crate::tables::{tables_of, write_first};
 use mp4_io::{Failure, Output};
@@ -45,20 +46,21 @@ fn reached_after(
 /// track before it.
 fn write_fragment<W: Write>(
     fragment: &TrackFragment,
-    track: Option<u32>,
+    rule: &RowRule<'_>,
     limit: Limit,
     before: Reached,
     writer: &mut RowWriter,
     output: &mut Output<W>,
 ) -> Result<Result<Reached, Fault>, Failure>
     ensures writes { IfOk result
-        (WritesTrackFragment fragment.now limit writer.old.form track before writer.old.follows writer.new.follows
+        (WritesTrackFragment fragment.now limit writer.old.form (labels_of rule.now) before writer.old.follows
+        writer.new.follows
         (W.contents output.old.inner) (W.contents output.new.inner)) }
     ensures form { writer.new.form ≡ writer.old.form }
 {
     let end = write_fragment_rows(
         &fragment.fragment(before.time),
-        track,
+        rule,
         limit,
         before.count,
         before.empty,
@@ -82,14 +84,15 @@ fn with_more(reached: Reached, unlisted: Unlisted, count: u64) -> Reached
 /// only, if a sample before it isn't listed. `before` has the rows of the track before it.
 fn write_next<W: Write>(
     traf: TrackTraf,
-    track: Option<u32>,
+    rule: &RowRule<'_>,
     limit: Limit,
     before: Reached,
     writer: &mut RowWriter,
     output: &mut Output<W>,
 ) -> Result<Result<Reached, Fault>, Failure>
     ensures writes { IfOk result
-        (WritesNext limit writer.old.form track traf before.unlisted before writer.old.follows writer.new.follows
+        (WritesNext limit writer.old.form (labels_of rule.now) traf before.unlisted before writer.old.follows
+        writer.new.follows
         (W.contents output.old.inner) (W.contents output.new.inner)) }
     ensures form { writer.new.form ≡ writer.old.form }
 {
@@ -98,7 +101,7 @@ fn write_next<W: Write>(
         return Ok(Ok(with_more(before, unlisted, samples)));
     }
     match fragment {
-        Ok(fragment) => write_fragment(&fragment, track, limit, before, writer, output),
+        Ok(fragment) => write_fragment(&fragment, rule, limit, before, writer, output),
         Err(error) => Ok(Err(Fault::Box(error))),
     }
 }
@@ -106,19 +109,19 @@ fn write_next<W: Write>(
 /// Writes the samples of a `traf`, unless its track has a fault before it.
 fn write_traf<W: Write>(
     traf: TrackTraf,
-    track: Option<u32>,
+    rule: &RowRule<'_>,
     limit: Limit,
     before: Result<Reached, Fault>,
     writer: &mut RowWriter,
     output: &mut Output<W>,
 ) -> Result<Result<Reached, Fault>, Failure>
     ensures writes { IfOk result
-        (WritesTraf limit writer.old.form track traf before writer.old.follows writer.new.follows
+        (WritesTraf limit writer.old.form (labels_of rule.now) traf before writer.old.follows writer.new.follows
         (W.contents output.old.inner) (W.contents output.new.inner)) }
     ensures form { writer.new.form ≡ writer.old.form }
 {
     match before {
-        Ok(reached) => write_next(traf, track, limit, reached, writer, output),
+        Ok(reached) => write_next(traf, rule, limit, reached, writer, output),
         Err(fault) => Ok(Err(fault)),
     }
 }
@@ -127,20 +130,20 @@ fn write_traf<W: Write>(
 /// it. `first` has the rows of the track before them.
 fn write_trafs<W: Write>(
     trafs: Vec<TrackTraf>,
-    track: Option<u32>,
+    rule: &RowRule<'_>,
     limit: Limit,
     first: Result<Reached, Fault>,
     writer: &mut RowWriter,
     output: &mut Output<W>,
 ) -> Result<Result<Reached, Fault>, Failure>
     ensures writes { IfOk result
-        (WritesTrafs limit writer.old.form track trafs.items first writer.old.follows writer.new.follows
+        (WritesTrafs limit writer.old.form (labels_of rule.now) trafs.items first writer.old.follows writer.new.follows
         (W.contents output.old.inner) (W.contents output.new.inner)) }
     ensures form { writer.new.form ≡ writer.old.form }
 {
     let mut reached = first;
     for traf in trafs {
-        let next = write_traf(traf, track, limit, reached, writer, output)?;
+        let next = write_traf(traf, rule, limit, reached, writer, output)?;
         reached = next;
     }
     Ok(reached)
@@ -166,19 +169,21 @@ pub fn write_track<S: Source, W: Write>(
     walk: &mut BoxWalk<S>,
     trak: &[TreeBox],
     heading: Heading,
+    rule: &RowRule<'_>,
     trafs: Vec<TrackTraf>,
     limit: Limit,
     writer: &mut RowWriter,
     output: &mut Output<W>,
 ) -> Result<Option<Fault>, Failure>
     ensures writes { IfSome walk.old.bytes
-        (λ file. IfOk result (WritesTrack limit writer.old.form heading.name trafs.items (samples_of file trak.now)
+        (λ file. IfOk result (WritesTrack limit writer.old.form (labels_of rule.now) trafs.items (samples_of file
+        trak.now)
         writer.old.follows writer.new.follows (W.contents output.old.inner) (W.contents output.new.inner))) }
     ensures form { writer.new.form ≡ writer.old.form }
     ensures kept { walk.new ≡ walk.old }
 {
     let tables = tables_of(alloc, walk, trak)?;
-    let first = write_first(tables, heading, limit, writer, output)?;
-    let last = write_trafs(trafs, heading.name.id(), limit, first, writer, output)?;
+    let first = write_first(tables, heading, rule, limit, writer, output)?;
+    let last = write_trafs(trafs, rule, limit, first, writer, output)?;
     Ok(fault_at_end(last))
 }

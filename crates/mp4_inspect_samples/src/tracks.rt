@@ -1,12 +1,15 @@
 //! The tracks of a file, one after the other.
 
-ghost use Rattle.std.specs.Prelude.{◌≡◌, ◌==◌, ◌||◌, ◌++◌, ℕ, [], is_some, map, Some, List, IfOk, OnOk, ◌∷◌};
+ghost use Rattle.std.specs.Prelude.{◌≡◌, ◌==◌, ◌||◌, ◌++◌, ℕ, [], is_some, map, Some, List, IfOk, IfSome, OnOk, ◌∷◌};
 ghost use Rattle.std.specs.Prelude.{if◌then◌else◌};
-ghost use Rattle.mp4_inspect_samples.specs.Samples.{AreMissing, EntersTracks, Inputs, IsAhead, Tells, WritesIf};
-ghost use Rattle.mp4_inspect_samples.specs.Samples.{WritesOne};
+ghost use Rattle.mp4_inspect_samples.specs.Samples.{AreMissing, EntersTracks, Inputs, IsAhead, Tells};
+ghost use Rattle.mp4_inspect_samples.specs.Samples.{WritesIf, WritesOne, read_scale};
+ghost use Rattle.mp4_inspect_samples.specs.EditParts.{edits_by};
+ghost use Rattle.mp4_inspect_samples.specs.Row.{edits_in};
+ghost use Rattle.mp4_inspect_samples.specs.Tracks.{WritesByList, WritesTimed, WritesWith, inputs_by};
+ghost use Rattle.mp4_movie.specs.Movies.{samples_of};
 ghost use Rattle.mp4_inspect_samples.specs.Samples.{is_met, is_wanted, limit_of, missing, name_faults, named};
-ghost use Rattle.mp4_inspect_samples.specs.Samples.{track_fault};
-ghost use Rattle.mp4_inspect_samples.specs.Samples.{trafs_for, with_name};
+ghost use Rattle.mp4_inspect_samples.specs.Samples.{track_fault, trafs_for, with_name};
 ghost use Rattle.mp4_inspect_samples.specs.Trafs.{AreStored, Traf};
 ghost use Rattle.std.specs.BTreeMap.{IsOrdered, get, keys};
 ghost use Rattle.std.specs.Ordering.{eq_by_cmp, nat_cmp};
@@ -14,17 +17,21 @@ ghost use Rattle.std.specs.Set.{is_member};
 ghost use Rattle.mp4_inspect_samples.specs.declared.fault.TrackName.TheVariants as tracks;
 
 use crate::choice::Choice;
+use crate::clock::Clock;
+use crate::edits::{EditParts, edit_parts, edits_by};
 use crate::fault::{Fault, TrackFault, TrackName};
 use crate::fragments::{Fragments, TrackTraf};
 use crate::heading::Heading;
 use crate::limit::Limit;
 use crate::lists::keep;
+use crate::row::RowRule;
 use crate::rows::RowWriter;
 use crate::track::write_track;
 use mp4_frame::FourCC;
 use mp4_frame::codes::TRAK;
 use mp4_io::{Failure, Output};
 use mp4_movie::{BoxError, TrackInfo, first_in};
+use mp4_samples::Edits;
 use mp4_walk::{BoxWalk, Source, TreeBox};
 use std::alloc::{AllocError, Global};
 use std::collections::BTreeMap;
@@ -141,39 +148,176 @@ fn keep_fault(
     }
 }
 
-/// Writes the samples of a track if `is_wanted`, and stores its fault. `trak` begins with the boxes inside its `trak`.
-fn write_if<S: Source, W: Write>(
+/// Returns the timescale and the unit of the times of a track.
+fn clock_of(heading: Heading, choice: Choice) -> Clock
+    ensures { result ≡ record { timescale = heading.timescale; seconds = choice.seconds } }
+{
+    Clock {
+        timescale: heading.timescale,
+        seconds: choice.seconds,
+    }
+}
+
+/// Writes the samples of a track, up to the first fault. Returns the fault. Presentation times are those by the edit
+/// list `edits`, or those without edits if it is `None`. `trak` begins with the boxes inside its `trak`.
+fn write_with<S: Source, W: Write>(
     alloc: Global,
     walk: &mut BoxWalk<S>,
     trak: &[TreeBox],
+    heading: Heading,
+    edits: Option<&Edits<'_>>,
+    trafs: Vec<TrackTraf>,
+    choice: Choice,
+    limit: Limit,
+    writer: &mut RowWriter,
+    output: &mut Output<W>,
+) -> Result<Option<Fault>, Failure>
+    ensures writes { IfSome walk.old.bytes
+        (λ file. IfOk result (WritesWith
+        (inputs_by limit writer.old.form choice heading trafs.items (samples_of file trak.now)) (edits_in edits.entry)
+        writer.old.follows writer.new.follows (W.contents output.old.inner) (W.contents output.new.inner))) }
+    ensures form { writer.new.form ≡ writer.old.form }
+    ensures kept { walk.new ≡ walk.old }
+{
+    let rule = RowRule {
+        track: heading.name.id(),
+        clock: clock_of(heading, choice),
+        edits,
+        sync: choice.sync,
+    };
+    write_track(
+        alloc, walk, trak, heading, &rule, trafs, limit, writer, output,
+    )
+}
+
+/// Writes the samples of a track with presentation times by the edit list that has the parts `parts`, up to the first
+/// fault. Returns the fault. Writes nothing if the edit list can't be used.
+fn write_edited<S: Source, W: Write>(
+    alloc: Global,
+    walk: &mut BoxWalk<S>,
+    trak: &[TreeBox],
+    heading: Heading,
+    parts: &EditParts,
+    trafs: Vec<TrackTraf>,
+    choice: Choice,
+    limit: Limit,
+    writer: &mut RowWriter,
+    output: &mut Output<W>,
+) -> Result<Option<Fault>, Failure>
+    ensures writes { IfSome walk.old.bytes
+        (λ file. IfOk result (WritesByList
+        (inputs_by limit writer.old.form choice heading trafs.items (samples_of file trak.now)) (edits_by parts.now)
+        writer.old.follows writer.new.follows (W.contents output.old.inner) (W.contents output.new.inner))) }
+    ensures form { writer.new.form ≡ writer.old.form }
+    ensures kept { walk.new ≡ walk.old }
+{
+    match edits_by(parts) {
+        Ok(edits) => write_with(
+            alloc,
+            walk,
+            trak,
+            heading,
+            Some(&edits),
+            trafs,
+            choice,
+            limit,
+            writer,
+            output,
+        ),
+        Err(fault) => Ok(Some(Fault::Edits(fault))),
+    }
+}
+
+/// Writes the samples of a track, up to the first fault. Returns the fault. Presentation times are those by its edit
+/// list if `choice.edits` asks for them. `movie` begins with the boxes inside the `moov`, and `trak` with those inside
+/// the `trak`. `media` is the timescale of the media.
+fn write_timed<S: Source, W: Write>(
+    alloc: Global,
+    walk: &mut BoxWalk<S>,
+    movie: &[TreeBox],
+    trak: &[TreeBox],
+    heading: Heading,
+    media: Result<u32, BoxError>,
+    trafs: Vec<TrackTraf>,
+    choice: Choice,
+    limit: Limit,
+    writer: &mut RowWriter,
+    output: &mut Output<W>,
+) -> Result<Option<Fault>, Failure>
+    ensures writes { IfSome walk.old.bytes
+        (λ file. IfOk result (WritesTimed choice.edits file movie.now trak.now media
+        (inputs_by limit writer.old.form choice heading trafs.items (samples_of file trak.now))
+        writer.old.follows writer.new.follows (W.contents output.old.inner) (W.contents output.new.inner))) }
+    ensures form { writer.new.form ≡ writer.old.form }
+    ensures kept { walk.new ≡ walk.old }
+{
+    let is_edited = choice.edits;
+    if !is_edited {
+        return write_with(
+            alloc, walk, trak, heading, None, trafs, choice, limit, writer, output,
+        );
+    }
+    let read = edit_parts(alloc, walk, movie, trak, media)?;
+    match read {
+        Ok(parts) => write_edited(
+            alloc, walk, trak, heading, &parts, trafs, choice, limit, writer, output,
+        ),
+        Err(error) => Ok(Some(Fault::Box(error))),
+    }
+}
+
+/// Returns the timescale that was read, if it could be.
+fn read_timescale(read: &Result<u32, BoxError>) -> Option<u32>
+    ensures { result ≡ read_scale read.now }
+{
+    match read {
+        Ok(timescale) => Some(*timescale),
+        Err(_) => None,
+    }
+}
+
+/// Writes the samples of a track, if `is_wanted`, and stores its fault. `movie` begins with the boxes inside the
+/// `moov`, and `trak` with those inside the `trak`. `media` is the timescale of the media.
+fn write_if<S: Source, W: Write>(
+    alloc: Global,
+    walk: &mut BoxWalk<S>,
+    movie: &[TreeBox],
+    trak: &[TreeBox],
     is_wanted: bool,
     heading: Heading,
+    media: Result<u32, BoxError>,
     trafs: Vec<TrackTraf>,
+    choice: Choice,
     limit: Limit,
     writer: &mut RowWriter,
     output: &mut Output<W>,
     faults: &mut Vec<TrackFault>,
 ) -> Result<(), Failure>
     ensures writes { (i : Inputs) (met : List ℕ) → walk.old.bytes ≡ Some i.file → limit ≡ limit_of i.choice i.file
-        → writer.old.form ≡ i.choice.form → trafs.items ≡ trafs_for i.trafs met heading.name
-        → OnOk result (Tells (WritesIf is_wanted i met heading.name trak.now writer.old.follows writer.new.follows
-        (W.contents output.old.inner) (W.contents output.new.inner)) faults.old.items faults.new.items) }
+        → choice ≡ i.choice → writer.old.form ≡ i.choice.form → heading.timescale ≡ read_scale media
+        → trafs.items ≡ trafs_for i.trafs met heading.name
+        → OnOk result (Tells (WritesIf is_wanted i movie.now met heading.name media trak.now writer.old.follows
+        writer.new.follows (W.contents output.old.inner) (W.contents output.new.inner)) faults.old.items
+        faults.new.items) }
     ensures form { writer.new.form ≡ writer.old.form }
     ensures kept { walk.new ≡ walk.old }
 {
     if !is_wanted {
         return Ok(());
     }
-    let fault = write_track(alloc, walk, trak, heading, trafs, limit, writer, output)?;
+    let fault = write_timed(
+        alloc, walk, movie, trak, heading, media, trafs, choice, limit, writer, output,
+    )?;
     keep_fault(heading.name, fault, faults)?;
     Ok(())
 }
 
-/// Writes the samples of a track, if they are asked for, and stores its faults. `trak` begins with the boxes inside its
-/// `trak`.
+/// Writes the samples of a track, if they are asked for, and stores its faults. `movie` begins with the boxes inside
+/// the `moov`, and `trak` with those inside the `trak`.
 fn write_one<S: Source, W: Write>(
     alloc: Global,
     walk: &mut BoxWalk<S>,
+    movie: &[TreeBox],
     trak: &[TreeBox],
     info: TrackInfo,
     choice: Choice,
@@ -185,7 +329,7 @@ fn write_one<S: Source, W: Write>(
 ) -> Result<(), Failure>
     ensures writes { (i : Inputs) (met : List ℕ) → walk.old.bytes ≡ Some i.file → limit ≡ limit_of i.choice i.file
         → choice ≡ i.choice → writer.old.form ≡ i.choice.form → IsAhead i.trafs met ahead.old
-        → OnOk result (Tells (WritesOne i met trak.now info writer.old.follows writer.new.follows
+        → OnOk result (Tells (WritesOne i movie.now met trak.now info writer.old.follows writer.new.follows
         (W.contents output.old.inner) (W.contents output.new.inner)) faults.old.items faults.new.items) }
     ensures met { (trafs : List Traf) (met : List ℕ) → IsAhead trafs met ahead.old
         → OnOk result (IsAhead trafs (with_name met (named info.position info.track_id)) ahead.new) }
@@ -205,10 +349,11 @@ fn write_one<S: Source, W: Write>(
     let heading = Heading {
         name,
         handler: handler.ok(),
-        timescale: timescale.ok(),
+        timescale: read_timescale(&timescale),
     };
     write_if(
-        alloc, walk, trak, is_wanted, heading, trafs, limit, writer, output, faults,
+        alloc, walk, movie, trak, is_wanted, heading, timescale, trafs, choice, limit, writer,
+        output, faults,
     )
 }
 
@@ -240,6 +385,7 @@ pub fn write_tracks<S: Source, W: Write>(
         write_one(
             alloc,
             walk,
+            movie,
             place.after,
             info,
             choice,

@@ -1,4 +1,4 @@
-use Rattle.std.proofs.Common.{◌≡◌, ◌∙◌, ◌-◌, ◌^◌, Some, ap, arith, min, refl}
+use Rattle.std.proofs.Common.{◌≡◌, ◌∙◌, Some, ap, arith, refl}
 use Rattle.mp4_inspect_samples.proofs.Outcomes.{if_is, some_at}
 use Rattle.mp4_inspect_samples.proofs.RunCounts.{counted_end, counted_next, counted_start, ok_at}
 use Rattle.mp4_inspect_samples.proofs.fragments.counted.Goals as goal

@@ -42,8 +42,7 @@ returns-clause-value g c =
     let at = c.loop-answer in
     if_is c.args.walk.now.bytes (λ file known.
     trafs_answered file c.args.moof c.args.boxes.now at.rest.now c.args.answers.items _ c.args.fragments.now
-    at.fragments
-    c.args.faults.now.items at.faults.items
+    at.fragments c.args.faults.now.items at.faults.items
     (none_left _ _ at.invariant.count c.in-None.ensures.steps.0)
     (some_at c.args.walk.now.bytes file _ known at.invariant.so_far))
 

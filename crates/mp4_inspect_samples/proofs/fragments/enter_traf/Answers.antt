@@ -1,6 +1,6 @@
 use Rattle.std.proofs.Common.{◌≡◌, ℕ, ◌∷◌, [], ap, subst, ◌∙◌}
 use Rattle.std.specs.declared.option.Option.{Option}
-use Rattle.mp4_inspect_samples.proofs.Outcomes.{always_ok, if_is, some_at}
+use Rattle.mp4_inspect_samples.proofs.Outcomes.{if_is, some_at}
 use Rattle.mp4_inspect_samples.proofs.fragments.enter_traf.Goals as goal
 use Rattle.mp4_inspect_samples.specs.Trafs.{Enters, Traf, traf_at}
 use Rattle.mp4_inspect_samples.specs.declared.fragments.TrackTraf.{TrackTraf}

@@ -2,6 +2,7 @@ use Rattle.std.proofs.Common.{◌≡◌, ℕ, ◌+◌, true, length, ap, refl, s
 use Rattle.mp4_inspect_samples.proofs.RowLists.{writes_none, writes_next, begins_next, begins_all, on_err}
 use Rattle.mp4_inspect_samples.proofs.rows.write_fragment_rows.Goals as goal
 use Rattle.mp4_inspect_samples.specs.Listed.{is_listed}
+use Rattle.mp4_inspect_samples.specs.Row.{labels_of}
 use Rattle.mp4_inspect_samples.specs.Rows.{WritesRows}
 use Rattle.mp4_samples.proofs.Fragments.{no_runs_samples}
 use Rattle.mp4_samples.specs.FragmentGives.{begins, number_of, sample_total}
@@ -20,11 +21,13 @@ loop-init g c =
       mark = search rules;
       count = rw c.samples-samples.ensures (omega (arith, none));
       written = rw c.samples-samples.ensures
-          (subst (λ (j : ℕ). WritesRows (IsFragmentSample f) c.args.limit c.args.writer.now.form c.args.track
+          (subst (λ (j : ℕ). WritesRows (IsFragmentSample f) c.args.limit c.args.writer.now.form (labels_of
+          c.args.rule.now)
           c.args.before c.args.empty_before j c.args.empty_before
           c.args.writer.now.follows c.args.writer.now.follows (g.W.Write.contents c.args.output.now.inner)
           (g.W.Write.contents c.args.output.now.inner)) (sym zero)
-          (writes_none (IsFragmentSample f) c.args.limit c.args.writer.now.form c.args.track c.args.before
+          (writes_none (IsFragmentSample f) c.args.limit c.args.writer.now.form (labels_of c.args.rule.now)
+          c.args.before
           c.args.empty_before c.args.writer.now.follows
           (g.W.Write.contents c.args.output.now.inner)));
     }
@@ -42,27 +45,29 @@ loop-preserved g c =
     record {
       fragment = gives.2 ∙ c.loop.invariant.fragment;
       on = gives.4;
-      form = c.in_ok-write_row-in-Some-Ok.ensures.form ∙ c.loop.invariant.form;
+      form = c.in_ok-write_sample-in-Some-Ok.ensures.form ∙ c.loop.invariant.form;
       mark = search rules;
       count = omega (arith, next, count);
-      written = writes_next (IsFragmentSample f) c.args.limit c.args.writer.now.form c.args.track c.args.before
+      written = writes_next (IsFragmentSample f) c.args.limit c.args.writer.now.form (labels_of c.args.rule.now)
+          c.args.before
           c.args.empty_before c.args.writer.now.follows (number_of c.loop.samples) (number_of c.next.new.self)
           (c.loop.count + 1) c.loop.empty c.empty_after-empty.result c.loop.writer.form c.loop.writer.follows
-          c.write_row.new.writer.follows
+          c.write_sample.new.writer.follows
           (g.W.Write.contents c.args.output.now.inner) (g.W.Write.contents c.loop.output.inner)
-          (g.W.Write.contents c.write_row.new.output.inner) c.in-Some-Ok.sample c.row_of.result
-          c.loop.invariant.written is listed c.empty_after-empty.ensures next c.row_of.ensures (omega (arith, count))
+          (g.W.Write.contents c.write_sample.new.output.inner) c.in-Some-Ok.sample
+          c.loop.invariant.written is listed c.empty_after-empty.ensures next (omega (arith, count))
           c.loop.invariant.form
-          c.in_ok-write_row-in-Some-Ok.ensures.follows c.in_ok-write_row-in-Some-Ok.ensures.row;
+          c.in_ok-write_sample-in-Some-Ok.ensures.follows c.in_ok-write_sample-in-Some-Ok.ensures.row;
     }
 
 pub returns-then-count-clause-begins : goal.returns-then-count-clause-begins
 returns-then-count-clause-begins g c =
-    begins_all (IsFragmentSample c.args.fragment.now) c.args.limit c.args.writer.now.form c.args.track c.args.before
+    begins_all (IsFragmentSample c.args.fragment.now) c.args.limit c.args.writer.now.form (labels_of c.args.rule.now)
+    c.args.before
     c.args.empty_before c.args.writer.now.follows _ _ _ _ _ c.loop.invariant.written
 
-pub returns-in_err-write_row-in-Some-Ok-clause-begins : goal.returns-in_err-write_row-in-Some-Ok-clause-begins
-returns-in_err-write_row-in-Some-Ok-clause-begins g c =
+pub returns-in_err-write_sample-in-Some-Ok-clause-begins : goal.returns-in_err-write_sample-in-Some-Ok-clause-begins
+returns-in_err-write_sample-in-Some-Ok-clause-begins g c =
     let f = c.args.fragment.now in
     let gives = rw c.in-Some-Ok.field-0-is at c.in-Some-Ok.ensures.steps in
     let is = subst (λ (f : Fragment). IsFragmentSample f (number_of c.loop.samples) c.in-Some-Ok.sample)
@@ -71,13 +76,13 @@ returns-in_err-write_row-in-Some-Ok-clause-begins g c =
     let listed : is_listed c.args.limit c.loop.empty c.in-Some-Ok.sample ≡ true =
     sym c.is_listed.ensures ∙ c.if-not-is_listed.false in
     on_err _
-    (begins_next (IsFragmentSample f) c.args.limit c.args.writer.now.form c.args.track c.args.before
+    (begins_next (IsFragmentSample f) c.args.limit c.args.writer.now.form (labels_of c.args.rule.now) c.args.before
     c.args.empty_before c.args.writer.now.follows
     (number_of c.loop.samples) (c.loop.count + 1) c.loop.empty c.loop.writer.form c.loop.writer.follows
     (g.W.Write.contents c.args.output.now.inner) (g.W.Write.contents c.loop.output.inner)
-    (g.W.Write.contents c.write_row.new.output.inner) c.in-Some-Ok.sample c.row_of.result
-    c.loop.invariant.written is listed c.row_of.ensures (omega (arith, count)) c.loop.invariant.form
-    c.in_err-write_row-in-Some-Ok.ensures.begins)
+    (g.W.Write.contents c.write_sample.new.output.inner) c.in-Some-Ok.sample
+    c.loop.invariant.written is listed (omega (arith, count)) c.loop.invariant.form
+    c.in_err-write_sample-in-Some-Ok.ensures.begins)
 
 pub returns-in-Some-Err-clause-rows : goal.returns-in-Some-Err-clause-rows
 returns-in-Some-Err-clause-rows g c =
@@ -130,5 +135,6 @@ returns-in-None-clause-rows g c =
 
 pub returns-clause-begins : goal.returns-clause-begins
 returns-clause-begins g c =
-    begins_all (IsFragmentSample c.args.fragment.now) c.args.limit c.args.writer.now.form c.args.track c.args.before
+    begins_all (IsFragmentSample c.args.fragment.now) c.args.limit c.args.writer.now.form (labels_of c.args.rule.now)
+    c.args.before
     c.args.empty_before c.args.writer.now.follows _ _ _ _ _ c.loop.invariant.written

@@ -2,6 +2,7 @@
 use Rattle.std.proofs.Common.{◌≡◌, ◌+◌, false}
 use Rattle.mp4_samples.specs.FragmentGives.{number_of}
 use Rattle.mp4_samples.specs.Fragments.{IsFragmentSample}
+use Rattle.mp4_inspect_samples.specs.Row.{labels_of}
 use Rattle.mp4_inspect_samples.specs.Rows.{WritesRows}
 use Rattle.mp4_inspect_samples.proofs.rows.write_fragment_rows.Given as goal
 
@@ -12,7 +13,8 @@ invariant-loop g l = record {
   form : l.writer.form ≡ l.initial.writer.form;
   mark : l.output.failed ≡ l.initial.output.failed;
   count : l.count ≡ l.before + number_of l.samples;
-  written : WritesRows (IsFragmentSample l.fragment) l.limit l.initial.writer.form l.track l.before l.empty_before
+  written : WritesRows (IsFragmentSample l.fragment) l.limit l.initial.writer.form (labels_of l.rule) l.before
+      l.empty_before
       (number_of l.samples) l.empty l.initial.writer.follows l.writer.follows
       (g.W.Write.contents l.initial.output.inner) (g.W.Write.contents l.output.inner);
 }

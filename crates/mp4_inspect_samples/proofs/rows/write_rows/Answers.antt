@@ -2,6 +2,7 @@ use Rattle.std.proofs.Common.{◌≡◌, ℕ, ◌+◌, ◌<◌, ◌≤◌, true,
 use Rattle.mp4_inspect_samples.proofs.RowLists.{writes_none, writes_next, begins_next, begins_all, on_err}
 use Rattle.mp4_inspect_samples.proofs.rows.write_rows.Goals as goal
 use Rattle.mp4_inspect_samples.specs.Listed.{is_listed}
+use Rattle.mp4_inspect_samples.specs.Row.{labels_of}
 use Rattle.mp4_inspect_samples.specs.Rows.{WritesRows}
 use Rattle.mp4_samples.specs.Samples.{IsSample, sample_count}
 use Rattle.mp4_samples.specs.declared.tables.Tables.{Tables}
@@ -14,7 +15,7 @@ loop-init g c = record {
   mark = search rules;
   count = rw c.samples-samples.ensures refl;
   written = rw c.samples-samples.ensures
-      (writes_none (IsSample c.args.tables.now) c.args.limit c.args.writer.now.form c.args.track 0 0
+      (writes_none (IsSample c.args.tables.now) c.args.limit c.args.writer.now.form (labels_of c.args.rule.now) 0 0
       c.args.writer.now.follows
       (g.W.Write.contents c.args.output.now.inner));
 }
@@ -34,22 +35,23 @@ loop-preserved g c =
     record {
       tables = gives.2 ∙ same;
       within = omega (arith, below, next);
-      form = c.in_ok-write_row-in-Some.ensures.form ∙ c.loop.invariant.form;
+      form = c.in_ok-write_sample-in-Some.ensures.form ∙ c.loop.invariant.form;
       mark = search rules;
       count = number;
-      written = writes_next (IsSample c.args.tables.now) c.args.limit c.args.writer.now.form c.args.track 0 0
+      written = writes_next (IsSample c.args.tables.now) c.args.limit c.args.writer.now.form (labels_of c.args.rule.now)
+          0 0
           c.args.writer.now.follows
           c.loop.samples.number c.next.new.self.number c.from-count.result c.loop.empty c.empty_after-empty.result
-          c.loop.writer.form c.loop.writer.follows c.write_row.new.writer.follows
+          c.loop.writer.form c.loop.writer.follows c.write_sample.new.writer.follows
           (g.W.Write.contents c.args.output.now.inner) (g.W.Write.contents c.loop.output.inner)
-          (g.W.Write.contents c.write_row.new.output.inner) c.in-Some.sample c.row_of.result
-          c.loop.invariant.written is listed c.empty_after-empty.ensures next c.row_of.ensures
+          (g.W.Write.contents c.write_sample.new.output.inner) c.in-Some.sample
+          c.loop.invariant.written is listed c.empty_after-empty.ensures next
           (omega (arith, next, number)) c.loop.invariant.form
-          c.in_ok-write_row-in-Some.ensures.follows c.in_ok-write_row-in-Some.ensures.row;
+          c.in_ok-write_sample-in-Some.ensures.follows c.in_ok-write_sample-in-Some.ensures.row;
     }
 
-pub returns-in_err-write_row-in-Some-clause-begins : goal.returns-in_err-write_row-in-Some-clause-begins
-returns-in_err-write_row-in-Some-clause-begins g c =
+pub returns-in_err-write_sample-in-Some-clause-begins : goal.returns-in_err-write_sample-in-Some-clause-begins
+returns-in_err-write_sample-in-Some-clause-begins g c =
     let gives = c.in-Some.ensures.steps in
     let is = subst (λ (t : Tables). IsSample t c.loop.samples.number c.in-Some.sample)
     c.loop.invariant.tables gives.1 in
@@ -59,17 +61,18 @@ returns-in_err-write_row-in-Some-clause-begins g c =
     let listed : is_listed c.args.limit c.loop.empty c.in-Some.sample ≡ true =
     sym c.is_listed.ensures ∙ c.if-not-is_listed.false in
     on_err _
-    (begins_next (IsSample c.args.tables.now) c.args.limit c.args.writer.now.form c.args.track 0 0
+    (begins_next (IsSample c.args.tables.now) c.args.limit c.args.writer.now.form (labels_of c.args.rule.now) 0 0
     c.args.writer.now.follows
     c.loop.samples.number c.from-count.result c.loop.empty c.loop.writer.form c.loop.writer.follows
     (g.W.Write.contents c.args.output.now.inner) (g.W.Write.contents c.loop.output.inner)
-    (g.W.Write.contents c.write_row.new.output.inner) c.in-Some.sample c.row_of.result
-    c.loop.invariant.written is listed c.row_of.ensures (omega (arith, next, number)) c.loop.invariant.form
-    c.in_err-write_row-in-Some.ensures.begins)
+    (g.W.Write.contents c.write_sample.new.output.inner) c.in-Some.sample
+    c.loop.invariant.written is listed (omega (arith, next, number)) c.loop.invariant.form
+    c.in_err-write_sample-in-Some.ensures.begins)
 
 pub returns-in-None-clause-rows : goal.returns-in-None-clause-rows
 returns-in-None-clause-rows g c =
-    subst (λ (j : ℕ). WritesRows (IsSample c.args.tables.now) c.args.limit c.args.writer.now.form c.args.track 0 0 j
+    subst (λ (j : ℕ). WritesRows (IsSample c.args.tables.now) c.args.limit c.args.writer.now.form (labels_of
+    c.args.rule.now) 0 0 j
     c.loop.empty c.args.writer.now.follows c.loop.writer.follows (g.W.Write.contents c.args.output.now.inner)
     (g.W.Write.contents c.loop.output.inner)) (sym c.loop.invariant.count) c.loop.invariant.written
 
@@ -84,7 +87,8 @@ returns-in-None-clause-ends g c =
 
 pub returns-then-not-is_listed-clause-rows : goal.returns-then-not-is_listed-clause-rows
 returns-then-not-is_listed-clause-rows g c =
-    subst (λ (j : ℕ). WritesRows (IsSample c.args.tables.now) c.args.limit c.args.writer.now.form c.args.track 0 0 j
+    subst (λ (j : ℕ). WritesRows (IsSample c.args.tables.now) c.args.limit c.args.writer.now.form (labels_of
+    c.args.rule.now) 0 0 j
     c.loop.empty c.args.writer.now.follows c.loop.writer.follows (g.W.Write.contents c.args.output.now.inner)
     (g.W.Write.contents c.loop.output.inner)) (sym c.loop.invariant.count) c.loop.invariant.written
 
@@ -99,5 +103,5 @@ returns-then-not-is_listed-clause-ends g c =
 
 pub returns-clause-begins : goal.returns-clause-begins
 returns-clause-begins g c =
-    begins_all (IsSample c.args.tables.now) c.args.limit c.args.writer.now.form c.args.track 0 0
+    begins_all (IsSample c.args.tables.now) c.args.limit c.args.writer.now.form (labels_of c.args.rule.now) 0 0
     c.args.writer.now.follows _ _ _ _ _ c.loop.invariant.written

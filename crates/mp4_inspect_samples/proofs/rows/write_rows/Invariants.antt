@@ -1,6 +1,7 @@
 -- The rows of the samples so far are written.
 use Rattle.std.proofs.Common.{◌≡◌, ◌≤◌}
 use Rattle.mp4_samples.specs.Samples.{IsSample, sample_count}
+use Rattle.mp4_inspect_samples.specs.Row.{labels_of}
 use Rattle.mp4_inspect_samples.specs.Rows.{WritesRows}
 use Rattle.mp4_inspect_samples.proofs.rows.write_rows.Given as goal
 
@@ -11,7 +12,7 @@ invariant-loop g l = record {
   form : l.writer.form ≡ l.initial.writer.form;
   mark : l.output.failed ≡ l.initial.output.failed;
   count : l.count ≡ l.samples.number;
-  written : WritesRows (IsSample l.tables) l.limit l.initial.writer.form l.track 0 0 l.samples.number l.empty
+  written : WritesRows (IsSample l.tables) l.limit l.initial.writer.form (labels_of l.rule) 0 0 l.samples.number l.empty
       l.initial.writer.follows l.writer.follows (g.W.Write.contents l.initial.output.inner)
       (g.W.Write.contents l.output.inner);
 }

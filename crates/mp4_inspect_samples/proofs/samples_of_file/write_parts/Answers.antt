@@ -18,8 +18,8 @@ returns g c = record {
       let stored : AreStored (trafs_by file parts) c.in_ok-fragments.fragments =
       subst (λ (bs : List TreeBox). AreStored (trafs_of file bs moofs) c.in_ok-fragments.fragments) same
       (some_at c.args.walk.now.bytes file _ known c.in_ok-fragments.ensures.stored) in
-      let told : c.fragments_of.new.faults.items ≡ c.keep_errors.new.faults.items
-      ++ header_faults (trafs_by file parts) =
+      let told : c.fragments_of.new.faults.items
+      ≡ c.keep_errors.new.faults.items ++ header_faults (trafs_by file parts) =
       subst (λ (bs : List TreeBox). c.fragments_of.new.faults.items
       ≡ c.keep_errors.new.faults.items ++ header_faults (trafs_of file bs moofs)) same
       (some_at c.args.walk.now.bytes file _ known c.in_ok-fragments.ensures.told) in
@@ -34,6 +34,6 @@ returns g c = record {
       c.write_tracks.new.faults.items c.keep_absent.new.faults.items c.keep_no_movie.new.faults.items
       c.write_tracks.new.ahead same c.movie_in-movie.ensures are c.in_ok-keep_errors.ensures told
       c.in_ok-write_front.ensures.text tracks
-      (c.in_ok-keep_absent.ensures (trafs_by file parts) tracks.met tracks.ahead_is) c.in_ok-keep_no_movie.ensures
-      end));
+      (c.in_ok-keep_absent.ensures (trafs_by file parts) tracks.met tracks.ahead_is)
+      c.in_ok-keep_no_movie.ensures end));
 }

@@ -1,8 +1,8 @@
-use Rattle.std.proofs.Common.{◌≡◌, ℕ, subst}
-use Rattle.std.specs.declared.option.Option.{Option}
+use Rattle.std.proofs.Common.{subst}
 use Rattle.mp4_inspect_samples.proofs.Outcomes.{if_is, some_at}
 use Rattle.mp4_inspect_samples.proofs.track.write_track.Goals as goal
-use Rattle.mp4_inspect_samples.specs.Tracks.{WritesTrafs, id_of}
+use Rattle.mp4_inspect_samples.specs.Row.{labels_of}
+use Rattle.mp4_inspect_samples.specs.Tracks.{WritesTrafs}
 use Rattle.mp4_inspect_samples.specs.declared.row_text.Form.{Form}
 use Rattle.mp4_movie.specs.Movies.{samples_of}
 
@@ -16,14 +16,9 @@ returns-clause-writes g c =
       first = c.in_ok-first.first;
       last = c.in_ok-last.last;
       writes_first = c.in_ok-first.ensures.writes (samples_of file c.args.trak.now) tables;
-      writes_trafs = subst
-          (λ (f : Form). WritesTrafs c.args.limit f (id_of c.args.heading.name) c.args.trafs.items c.in_ok-first.first
-          c.write_first.new.writer.follows c.write_trafs.new.writer.follows
-          (g.W.Write.contents c.write_first.new.output.inner) (g.W.Write.contents c.write_trafs.new.output.inner)
-          c.in_ok-last.last) c.in_ok-first.ensures.form
-          (subst (λ (id : Option ℕ). WritesTrafs c.args.limit c.write_first.new.writer.form id c.args.trafs.items
+      writes_trafs = subst (λ (f : Form). WritesTrafs c.args.limit f (labels_of c.args.rule.now) c.args.trafs.items
           c.in_ok-first.first c.write_first.new.writer.follows c.write_trafs.new.writer.follows
           (g.W.Write.contents c.write_first.new.output.inner) (g.W.Write.contents c.write_trafs.new.output.inner)
-          c.in_ok-last.last) c.id.ensures c.in_ok-last.ensures.writes);
+          c.in_ok-last.last) c.in_ok-first.ensures.form c.in_ok-last.ensures.writes;
       fault_is = c.fault_at_end.ensures;
     })

@@ -1,13 +1,11 @@
-use Rattle.std.proofs.Common.{◌≡◌, ◌∙◌, Bool, Some, map, ap, refl, sym}
+use Rattle.std.proofs.Common.{◌∙◌, map, ap, refl, sym}
 use Rattle.std.specs.BTreeMap.{keys}
 use Rattle.std.specs.Option.{is_some}
-use Rattle.std.specs.declared.option.Option.{Option}
 use Rattle.mp4_inspect_samples.proofs.Outcomes.{on_ok}
 use Rattle.mp4_inspect_samples.proofs.TrackLists.{some_left, some_stored}
 use Rattle.mp4_inspect_samples.proofs.tracks.keep_absent.Goals as goal
 use Rattle.mp4_inspect_samples.specs.Samples.{is_met, missing}
 use Rattle.mp4_inspect_samples.specs.Trafs.{with_id}
-use Rattle.mp4_inspect_samples.specs.declared.fragments.TrackTraf.{TrackTraf}
 
 pub returns-in-Some : goal.returns-in-Some
 returns-in-Some c = λ trafs met ahead.

@@ -1,9 +1,8 @@
-use Rattle.std.proofs.Common.{◌≡◌, ◌∙◌, List, sym, ap, subst}
-use Rattle.std.specs.declared.option.Option.{Option}
+use Rattle.std.proofs.Common.{◌∙◌, ap, subst}
 use Rattle.mp4_inspect_samples.proofs.Outcomes.{always_ok, on_ok}
 use Rattle.mp4_inspect_samples.proofs.TrackLists.{of_one}
 use Rattle.mp4_inspect_samples.proofs.tracks.write_one.Goals as goal
-use Rattle.mp4_inspect_samples.specs.Samples.{IsAhead, is_wanted, named, with_name}
+use Rattle.mp4_inspect_samples.specs.Samples.{IsAhead, is_wanted, with_name}
 use Rattle.mp4_inspect_samples.specs.declared.choice.Choice.{Choice}
 use Rattle.mp4_inspect_samples.specs.declared.fault.TrackName.{TrackName}
 
@@ -11,8 +10,10 @@ pub returns-clause-writes : goal.returns-clause-writes
 returns-clause-writes g c = λ i met known limit choice form ahead.
     let name = c.in_ok-name.name in
     on_ok c.write_if.result
-    (c.write_if.ensures.writes i met known limit form (c.in_ok-trafs.ensures.trafs i.trafs met ahead))
-    (λ told. of_one i met c.args.trak.now c.args.info name c.is_wanted-is_wanted.result c.args.writer.now.follows
+    (c.write_if.ensures.writes i met known limit choice form c.read_timescale.ensures
+    (c.in_ok-trafs.ensures.trafs i.trafs met ahead))
+    (λ told. of_one i c.args.movie.now met c.args.trak.now c.args.info name c.is_wanted-is_wanted.result
+    c.args.writer.now.follows
     c.write_if.new.writer.follows (g.W.Write.contents c.args.output.now.inner)
     (g.W.Write.contents c.write_if.new.output.inner) c.args.faults.now.items c.name_of.new.faults.items
     c.write_if.new.faults.items c.in_ok-name.ensures.name

@@ -1,4 +1,4 @@
-use Rattle.std.proofs.Common.{◌≡◌, ◌∙◌, ℕ, Bool, List, ap}
+use Rattle.std.proofs.Common.{◌∙◌, Bool, ap}
 use Rattle.std.specs.Prelude.{◌==◌, ◌||◌}
 use Rattle.mp4_inspect_samples.proofs.TrackLists.{left_after, taken_is}
 use Rattle.mp4_inspect_samples.proofs.tracks.Ahead.meet.Goals as goal
