@@ -7,7 +7,7 @@ _mp4inspect() {
     esac
     case $command in
         info) words="--json --help" ;;
-        check) words="--json --strict --help" ;;
+        check) words="--json --strict --media --help" ;;
         get) words="--json --raw --content --field --help" ;;
         samples) words="--track --json --csv --beyond --seconds --edits --sync --segments --help" ;;
         help) words="info check samples get" ;;

@@ -14,6 +14,7 @@ complete -c mp4inspect -n __fish_use_subcommand -l wide -d "Don't break lines at
 complete -c mp4inspect -n "__fish_seen_subcommand_from info" -l json -d "Print an array of JSON objects"
 complete -c mp4inspect -n "__fish_seen_subcommand_from check" -l json -d "Print an array of JSON objects"
 complete -c mp4inspect -n "__fish_seen_subcommand_from check" -l strict -d "Exit with status 1 for warnings, too"
+complete -c mp4inspect -n "__fish_seen_subcommand_from check" -l media -d "Check the samples of AVC, HEVC and PCM, too"
 complete -c mp4inspect -n "__fish_seen_subcommand_from samples" -l track -x -d "Print only the samples of a track"
 complete -c mp4inspect -n "__fish_seen_subcommand_from samples" -l json -d "Print an array of JSON objects"
 complete -c mp4inspect -n "__fish_seen_subcommand_from samples" -l csv -d "Print numbers, separated by commas"

@@ -4,6 +4,7 @@
 - The lines and the status of each, and the objects of `--json`, also beside the second computation
   (readers/check.py).
 - `--strict`: the status of files with warnings only.
+- `--media`: the same over files with faults of samples (files/faulty_samples.py).
 - Several files, in both forms, and files that can't be read.
 - The codes, their severities and their order are those of docs/CHECK.md, and each code has a file."""
 
@@ -15,7 +16,7 @@ import tempfile
 import unittest
 
 from tests.built import TOP, built
-from tests.files import faulty
+from tests.files import faulty, faulty_samples
 from tests.files.inspected import check_schema, files, load
 from tests.programs.test_inspect import Runs, write_file
 from tests.readers import check
@@ -42,16 +43,25 @@ class Check(unittest.TestCase):
         self.runs.out(int(bool(wanted)), "check", "--strict", "-", input=data)
         self.runs.compared(data, f"check, {name}")
 
+    def of_media(self, name, data, wanted):
+        """Compares the lines about a file and its samples with those that were worked out for it, and all other
+        output."""
+        is_wrong = any(": warning: " not in line for line in wanted)
+        found = self.runs.out(int(is_wrong), "check", "--media", "-", input=data)
+        self.runs.same(found.split("\n"), [*wanted, ""], f"check --media, {name}")
+        self.runs.out(int(bool(wanted)), "check", "--media", "--strict", "-", input=data)
+        self.runs.compared(data, f"check --media, {name}")
+
     def test_codes(self):
         """Each code of the document has a file, and no other code is written."""
         found, wanted = {}, documented()
-        for name, data, _ in faulty.cases():
-            for fault in check.faults(data, tree(data)):
+        for name, data, _ in [*faulty.cases(), *faulty_samples.cases()]:
+            for fault in check.faults(data, tree(data), True):
                 found.setdefault(fault["code"], (fault["severity"], data))
         self.assertEqual({code: severity for code, (severity, _) in found.items()}, wanted)
         self.assertEqual({code for code, severity in wanted.items() if severity == "warning"}, check.WARNINGS)
         for code, (severity, data) in found.items():
-            objects = load(self.runs.run("check", "--json", "-", input=data).stdout)
+            objects = load(self.runs.run("check", "--json", "--media", "-", input=data).stdout)
             self.assertIn((code, severity), [(it["code"], it["severity"]) for it in objects])
 
     def test_statuses(self):
@@ -109,16 +119,18 @@ class Check(unittest.TestCase):
         return next(data for name, data, _ in faulty.cases() if name == "a movie")
 
 
-def add(name, *case):
-    """Adds the test `name`. Raises ValueError if there is another with this name."""
-    name = "_".join(["test_file", *re.findall(r"\w+", name)])
+def add(kind, compare, name, *case):
+    """Adds the test `name` of a kind. Raises ValueError if there is another with this name."""
+    name = "_".join([kind, *re.findall(r"\w+", name)])
     if hasattr(Check, name):
         raise ValueError(f"two tests have the name {name}")
-    setattr(Check, name, lambda self: self.of_file(*case))
+    setattr(Check, name, lambda self: compare(self, *case))
 
 
 for one in faulty.cases():
-    add(one[0], *one)
+    add("test_file", Check.of_file, one[0], *one)
+for one in faulty_samples.cases():
+    add("test_media", Check.of_media, one[0], *one)
 
 if __name__ == "__main__":
     unittest.main()

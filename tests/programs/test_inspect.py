@@ -125,6 +125,9 @@ class Runs:
         check_schema(objects, self.check_schema, self.check_schema)
         self.same([json.dumps(it) for it in objects], [json.dumps({"file": "-", **it}) for it in found],
                   what + ", faults as JSON")
+        found = check.faults(data, boxes, True)
+        text = self.out(check.status(found), "check", "--media", "-", input=data)
+        self.same(text.split("\n"), [*check.lines(found), ""], what + ", faults of samples")
 
     def sampled(self, data, what, chosen=None, path="-", beyond=False, seconds=False, sync=False, edits=False):
         """Compares the samples that the program shows for `data` in each form with the second computation: rows,

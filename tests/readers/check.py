@@ -1,6 +1,8 @@
 """Computes the faults of a file a second time, by docs/CHECK.md and the standards only, to compare `mp4inspect check`
-with. `faults` gives them in their order, and `lines` their lines. It shares nothing with the product."""
+with. `faults` gives them in their order, and `lines` their lines. `media.py` has those of samples. It shares nothing
+with the product."""
 
+from tests.readers import media as samples_of
 from tests.readers.inspect import code_text, first, in_level, value_of
 from tests.readers.samples import disagreement
 
@@ -14,7 +16,7 @@ ONCE = {"moov": "mvhd iods mvex meta udta".split(), "trak": "tkhd tref trgr edts
         "moof": "mfhd meta udta".split(), "traf": "tfhd tfdt sdtp meta udta".split()}
 FILES = {"moov", "moof", "meta", "sidx"}
 WARNINGS = {"box-repeated", "track-id-zero", "chunks-overlap", "media-duration", "track-duration", "movie-duration",
-            "decode-time-back"}
+            "decode-time-back", "pcm-frames-cut"}
 NOT_MP4, CUT, SMALL = "this is not an MP4 file", "unexpected end of input", "box size too small"
 MOST = 2**64 - 1
 
@@ -166,7 +168,7 @@ class Check:
 
     def tracks(self):
         """Adds the faults of the tracks of the first `moov`, and of its header."""
-        self.headers, self.away, longest = {}, set(), None
+        self.headers, self.away, self.elsewhere, longest = {}, set(), set(), None
         fragmented = bool(children(self.movie, "mvex"))
         header = inside(self.movie, "mvhd")
         for number, trak in enumerate(children(self.movie, "trak")):
@@ -194,6 +196,8 @@ class Check:
         header, media = inside(trak, "tkhd"), inside(trak, "mdia", "mdhd")
         away = any(parent["type"] == "dref" and is_whole(box) and box["length"] - box["header"] >= 4
                    and not self.data[box["position"] + box["header"] + 3] & 1 for box, parent in below(trak))
+        if away:
+            self.elsewhere.add(trak["position"])
         table = inside(trak, "mdia", "minf", "stbl")
         tables = tables_of(table) if is_whole(table) else None
         said = disagreement(tables) if tables else None
@@ -365,9 +369,13 @@ def line(fault):
     return f"{fault['position']} {fault['path']}: {warning}{fault['text']}"
 
 
-def faults(data, boxes):
-    """Returns the faults of a file, in the order in which `check` writes them."""
-    return Check(data, boxes).found
+def faults(data, boxes, media=False):
+    """Returns the faults of a file, in the order in which `check` writes them, with those of samples if `media`."""
+    found = Check(data, boxes)
+    if media:
+        for fault in samples_of.faults(data, boxes, found.elsewhere, tables_of):
+            found.add(*fault)
+    return found.found
 
 
 def lines(found):

@@ -1,6 +1,6 @@
 """Runs mp4inspect over real files, which ffmpeg and heif-enc make (making.py), and looks at the boxes of their trees.
 
-- `check` finds no fault in them, except in those of `FAULTS`.
+- `check --media` finds no fault in them, except in those of `FAULTS`.
 - Lines, JSON and samples are those of a second computation (readers/inspect.py, readers/samples.py). The boxes follow
   one another from the beginning of the file to its end, and those in a box up to the end of that box.
 - The samples of each track are the packets that ffprobe reads (packets.py).
@@ -150,7 +150,7 @@ class RealFiles(unittest.TestCase):
         runs.sampled(data, path)
         boxes = tree(data)
         self.boxes_tile(boxes, 0, len(data))
-        found = runs.run("check", path).stdout.decode()
+        found = runs.run("check", "--media", path).stdout.decode()
         if name in FAULTS:
             self.assertIn(FAULTS[name], found, "there is no such fault any more")
         else:

@@ -40,3 +40,8 @@ pub passed_on : {A E F : Type 0} (outcome : Result A E) (r : Result A F) {P Q : 
     → IfOk r (λ a. outcome ≡ Ok a) → IfOk outcome P → ((a : A) → P a → Q a) → IfOk r Q
 passed_on outcome (Err e) same p f = tt
 passed_on {E = E} outcome (Ok a) {P} same p f = f a (subst (λ (s : Result _ E). IfOk s P) same p)
+
+pub passed_ok : {A E F : Type 0} (outcome : Result A E) (r : Result A F) (P : Type 0)
+    → IfOk r (λ a. outcome ≡ Ok a) → OnOk outcome P → OnOk r P
+passed_ok outcome (Err e) P same p = tt
+passed_ok {E = E} outcome (Ok a) P same p = subst (λ (s : Result _ E). OnOk s P) same p

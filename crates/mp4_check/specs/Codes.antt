@@ -30,6 +30,8 @@ code_of (what.MovieDuration _) = c.MovieDuration
 code_of (what.RunsOutside _) = c.RunOutsideMedia
 code_of (what.TimeBack _ _) = c.DecodeTimeBack
 code_of (what.IndexSizes _ _) = c.IndexSizes
+code_of (what.Units _) = c.NalUnitsMisfit
+code_of (what.Frames _) = c.PcmFramesCut
 
 -- warnings are faults with which players cope; docs/CHECK.md has the reason for each
 abbrev pub severity_of : Code → Severity
@@ -40,6 +42,7 @@ severity_of c.MediaDuration = severities.Warning
 severity_of c.TrackDuration = severities.Warning
 severity_of c.MovieDuration = severities.Warning
 severity_of c.DecodeTimeBack = severities.Warning
+severity_of c.PcmFramesCut = severities.Warning
 severity_of _ = severities.Failure
 
 abbrev pub severity_word : Severity → List ℕ
@@ -69,3 +72,5 @@ word_of c.MovieDuration = codes "movie-duration"
 word_of c.RunOutsideMedia = codes "run-outside-media"
 word_of c.DecodeTimeBack = codes "decode-time-back"
 word_of c.IndexSizes = codes "index-sizes"
+word_of c.NalUnitsMisfit = codes "nal-units-misfit"
+word_of c.PcmFramesCut = codes "pcm-frames-cut"

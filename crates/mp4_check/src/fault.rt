@@ -7,6 +7,7 @@ use crate::duration::Duration;
 use crate::outside::Outside;
 use crate::overlap::Overlap;
 use crate::path::Part;
+use crate::sample_faults::SampleFaults;
 use mp4_content::NotMp4;
 use mp4_frame::Error;
 use mp4_samples::Disagreement;
@@ -85,6 +86,10 @@ pub enum What {
         /// The position.
         position: u64,
     },
+    /// NAL units don't fill samples.
+    Units(SampleFaults),
+    /// Samples have a part of a frame of PCM.
+    Frames(SampleFaults),
 }
 
 /// The kind of a fault. Its word never changes.
@@ -134,6 +139,10 @@ pub enum Code {
     DecodeTimeBack,
     /// See `What::IndexSizes`.
     IndexSizes,
+    /// See `What::Units`.
+    NalUnitsMisfit,
+    /// See `What::Frames`.
+    PcmFramesCut,
 }
 
 /// The severity of a fault.
@@ -197,6 +206,8 @@ impl What {
             What::RunsOutside(_) => Code::RunOutsideMedia,
             What::TimeBack { .. } => Code::DecodeTimeBack,
             What::IndexSizes { .. } => Code::IndexSizes,
+            What::Units(_) => Code::NalUnitsMisfit,
+            What::Frames(_) => Code::PcmFramesCut,
         }
     }
 }
@@ -225,7 +236,8 @@ impl Code {
             | Code::MediaDuration
             | Code::TrackDuration
             | Code::MovieDuration
-            | Code::DecodeTimeBack => Severity::Warning,
+            | Code::DecodeTimeBack
+            | Code::PcmFramesCut => Severity::Warning,
             _ => Severity::Failure,
         }
     }
@@ -257,6 +269,8 @@ impl Code {
             Code::RunOutsideMedia => "run-outside-media",
             Code::DecodeTimeBack => "decode-time-back",
             Code::IndexSizes => "index-sizes",
+            Code::NalUnitsMisfit => "nal-units-misfit",
+            Code::PcmFramesCut => "pcm-frames-cut",
         }
     }
 }

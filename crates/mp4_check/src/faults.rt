@@ -75,7 +75,7 @@ fn write_boxes<B: Shown, S: Source, W: Write>(
 }
 
 /// Returns the boxes after the header of the first `moov` in `boxes`, or none if there is no `moov`.
-fn movie_in(boxes: &[TreeBox]) -> &[TreeBox]
+pub fn movie_in(boxes: &[TreeBox]) -> &[TreeBox]
     ensures { result.now ≡ movie_in boxes.now }
 {
     match first_in(boxes, 0, MOOV) {
@@ -430,7 +430,7 @@ fn write_movie<S: Source, W: Write>(
 }
 
 /// Returns the defaults of the tracks for their fragments, of a file with the boxes `boxes`.
-fn track_defaults<S: Source>(
+pub fn track_defaults<S: Source>(
     alloc: Global,
     walk: &mut BoxWalk<S>,
     boxes: &[TreeBox],
@@ -487,6 +487,7 @@ pub fn write_faults<B: Shown, S: Source, W: Write>(
         (λ file. boxes.now ≡ boxes_of file
         → IfOk result (λ told. WritesCheck B.known B.named_reading ⟦<SidxBox as ReadBox>⟧.reads form.entry any file
         (W.contents output.old.inner) (W.contents output.new.inner) told)) }
+    ensures kept { walk.new ≡ walk.old }
 {
     let told = Told {
         any,

@@ -75,7 +75,7 @@ impl Going {
 }
 
 /// Appends the fault `what` of the box at `position`, which is the first one at `codes` in the `traf` at `place`.
-fn push_fault(
+pub fn push_fault(
     alloc: Global,
     place: TrafPlace,
     codes: &[u32],

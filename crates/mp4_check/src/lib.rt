@@ -1,5 +1,6 @@
-//! For programs that check files: `write_faults` writes each fault of a file, as a line or as a JSON object. A fault is
-//! a value, `Fault`, from which its words are made last. docs/CHECK.md lists the faults.
+//! For programs that check files: `write_faults` writes each fault of a file, as a line or as a JSON object, and
+//! `write_sample_faults` those of its samples. A fault is a value, `Fault`, from which its words are made last.
+//! docs/CHECK.md lists the faults.
 #![tactic(auto)]
 
 mod box_faults;
@@ -18,6 +19,8 @@ mod overlap;
 mod parts;
 mod path;
 mod references;
+mod sample_faults;
+mod samples;
 mod siblings;
 mod tables;
 mod track_search;
@@ -35,4 +38,6 @@ pub use outside::{Outside, Stray};
 pub use overlap::{Overlap, chunks_overlap};
 pub use parts::{group_of, is_file, is_part, needed};
 pub use path::{BoxPaths, Part};
+pub use sample_faults::{SampleFaults, write_sample_faults};
+pub use samples::SampleFault;
 pub use track_search::track_at;

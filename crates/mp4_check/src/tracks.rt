@@ -97,7 +97,7 @@ pub struct TrackValues {
 
 /// Appends the fault `what`, if there is one, of the box at `position`, which is the first one at `codes` in track
 /// `number`.
-fn push_fault(
+pub fn push_fault(
     alloc: Global,
     number: u64,
     codes: &[u32],

@@ -5,6 +5,7 @@ use crate::extent::Lies;
 use crate::fault::{Fault, Reason, What};
 use crate::outside::{Outside, Stray};
 use crate::overlap::Overlap;
+use crate::sample_faults::SampleFaults;
 use mp4_content::push_foreign;
 use mp4_frame::codes::{MDAT, STCO, STSZ, VMHD};
 use mp4_show::{Result, push_code, push_number};
@@ -215,11 +216,60 @@ fn push_segment(what: What, out: &mut String) -> Result<()> {
     }
 }
 
+/// Appends the number, the offset and the size of the first sample with a fault.
+fn push_sample(faults: SampleFaults, out: &mut String) -> Result<()> {
+    push_numbered("; the first is sample ", faults.first.number, out)?;
+    push_numbered(" at offset ", faults.first.offset, out)?;
+    push_numbered(" of ", u64::from(faults.first.size), out)?;
+    out.push_str(if faults.first.size == 1 {
+        " byte"
+    } else {
+        " bytes"
+    })
+}
+
+/// Appends the number of samples with a fault, of those that were looked at.
+fn push_samples(faults: SampleFaults, out: &mut String) -> Result<()> {
+    push_number(faults.count, out)?;
+    push_numbered(" of ", faults.all, out)?;
+    out.push_str(if faults.all == 1 {
+        " sample"
+    } else {
+        " samples"
+    })
+}
+
+/// Appends the words of a fault of samples.
+fn push_media(what: What, out: &mut String) -> Result<()> {
+    match what {
+        What::Units(faults) => {
+            out.push_str("NAL units don't fill ")?;
+            push_samples(faults, out)?;
+            push_sample(faults, out)?;
+            push_numbered(", whose unit at ", faults.first.cause, out)?;
+            out.push_str(" ends after it")
+        }
+        What::Frames(faults) => {
+            push_samples(faults, out)?;
+            out.push_str(if faults.count == 1 {
+                " has a part of a frame"
+            } else {
+                " have a part of a frame"
+            })?;
+            push_sample(faults, out)?;
+            push_numbered(", and a frame has ", faults.first.cause, out)?;
+            out.push_str(" bytes")
+        }
+        _ => Ok(()),
+    }
+}
+
 /// Appends the words for `what`, a fault of a box with the code `code`. Appends nothing if only a reader can say it.
 fn push_what(code: Option<FourCC>, what: What, out: &mut String) -> Result<()> {
     push_box(code, what, out)?;
     push_track(what, out)?;
-    push_segment(what, out)
+    push_segment(what, out)?;
+    push_media(what, out)
 }
 
 /// Returns the words of `fault`.

@@ -2,7 +2,7 @@
 use Rattle.std.specs.Prelude.{◌≡◌, ℕ, ◌&&◌, ◌||◌, Bool, List, None, Some, if◌then◌else◌}
 use Rattle.std.specs.Borrow.{Bor}
 use Rattle.std.specs.declared.option.Option.{Option}
-use Rattle.mp4_check.specs.Faults.{WritesCheck}
+use Rattle.mp4_check.specs.SampleFaults.{WritesAll}
 use Rattle.mp4_check.specs.declared.lines.Form.{Form}
 use Rattle.mp4_check.specs.declared.lines.Form.TheVariants as forms
 use Rattle.mp4_check.specs.declared.lines.Told.{Told}
@@ -23,12 +23,13 @@ form_of show name =
 abbrev pub is_bad : Checks → Told → Bool
 is_bad checks told = told.failures || (checks.strict && told.warnings)
 
--- The faults of a file are written, and no others. The run fails if one of them is bad. Whether a fault of any file was
--- written is known before and after. This is a record so that a caller's proof doesn't compute the faults.
+-- The faults of a file are written, with those of its samples if these are checked, and no others. The run fails if one
+-- of them is bad. Whether a fault of any file was written is known before and after. This is a record so that the proof
+-- of a caller doesn't compute the faults.
 pub record ChecksFile {A : Type 0} (known : BoxType → Bool) (reading : BoxType → List ℕ → ℕ → ℕ → Reading A)
     (reads_sidx : List ℕ → ℕ → ℕ → Reading Sidx) (form : Form) (checks : Checks) (file : List ℕ)
     (any : Bool) (old new : Option (List ℕ)) (checked : Checked) : Type 0 where
   pub told : Told
-  pub writes : WritesCheck known reading reads_sidx form any file old new told
+  pub writes : WritesAll known reading reads_sidx checks.media form any file old new told
   pub is_faulty : checked.faulty ≡ is_bad checks told
   pub any_after : checked.any ≡ told.any

@@ -2,7 +2,7 @@
 
 ghost use Rattle.std.specs.Prelude.{◌≡◌, ◌||◌, false, string_bytes, IfOk, OnOk, OnErr, IfSome};
 ghost use Rattle.std.specs.Io.KnownBytes.{Appends};
-ghost use Rattle.mp4_check.specs.Faults.{WritesCheck};
+ghost use Rattle.mp4_check.specs.SampleFaults.{WritesAll};
 ghost use Rattle.mp4_inspect.specs.Checked.{ChecksFile, form_of, is_bad};
 ghost use Rattle.mp4_inspect.specs.Heading.{heading_of};
 ghost use Rattle.mp4_inspect.specs.Json.{comma, WritesJson};
@@ -16,7 +16,7 @@ ghost use Rattle.mp4_walk.specs.FileBoxes.{boxes_of};
 use crate::request::{Checks, Task};
 use crate::tree_json::tree_json;
 use crate::tree_text::write_tree;
-use mp4_check::{Form, Told, write_faults};
+use mp4_check::{Form, Told, write_faults, write_sample_faults};
 use mp4_content::Shown;
 use mp4_extra::SidxBox;
 use mp4_frame::ReadBox;
@@ -42,7 +42,7 @@ pub struct Show {
     pub follows: bool,
     /// The samples that are written, and their form.
     pub samples: Choice,
-    /// The form of faults, and which of them count.
+    /// The form of faults, what is checked, and which faults count.
     pub checks: Checks,
 }
 
@@ -199,22 +199,28 @@ fn is_bad(told: Told, checks: Checks) -> bool
     told.failures || checks.strict && told.warnings
 }
 
-/// Writes the faults of a source. Returns what was written. `any` says whether a fault of another file was written
-/// before.
+/// Writes the faults of a source, and after them those of its samples if `media`. Returns what was written. `any` says
+/// whether a fault of another file was written before.
 fn show_faults<B: Shown, S: Source, W: Write>(
     alloc: Global,
     form: Form<'_>,
     any: bool,
+    media: bool,
     source: S,
     output: &mut Output<W>,
 ) -> Result<Told, Failure>
     ensures faults { IfSome (S.all source)
-        (λ bytes. IfOk result (λ told. WritesCheck B.known B.named_reading ⟦<SidxBox as ReadBox>⟧.reads form.entry any
-        bytes (W.contents output.old.inner) (W.contents output.new.inner) told)) }
+        (λ bytes. IfOk result (WritesAll B.known B.named_reading ⟦<SidxBox as ReadBox>⟧.reads media form.entry any
+        bytes (W.contents output.old.inner) (W.contents output.new.inner))) }
 {
     let mut walk = or_read(BoxWalk::new(alloc, source))?;
     let boxes = or_read(walk.rest(alloc))?;
-    write_faults::<B, S, W>(alloc, &mut walk, &boxes, form, any, output)
+    let told = write_faults::<B, S, W>(alloc, &mut walk, &boxes, form, any, output)?;
+    if media {
+        write_sample_faults(alloc, &mut walk, &boxes, form, told, output)
+    } else {
+        Ok(told)
+    }
 }
 
 /// The result of the check of a file.
@@ -241,7 +247,7 @@ pub fn check_file<B: Shown, S: Source, W: Write>(
         (W.contents output.old.inner) (W.contents output.new.inner))) }
 {
     let form = form_of(name, show);
-    let told = show_faults::<B, S, W>(alloc, form, any, source, output)?;
+    let told = show_faults::<B, S, W>(alloc, form, any, show.checks.media, source, output)?;
     Ok(Checked {
         faulty: is_bad(told, show.checks),
         any: told.any,

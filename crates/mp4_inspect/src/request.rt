@@ -32,19 +32,22 @@ pub enum Rows {
     Json,
 }
 
-/// The form in which faults are written, and which of them make the run fail.
+/// The form in which faults are written, what is checked, and which faults make the run fail.
 #[derive(Clone, Copy, Debug, PartialEq, Eq)]
 pub struct Checks {
     /// True for JSON.
     pub json: bool,
     /// True if warnings count, too.
     pub strict: bool,
+    /// True if samples are checked, too.
+    pub media: bool,
 }
 
-/// Lines, and a run that fails for errors only.
+/// Lines, no check of samples, and a run that fails for errors only.
 const PLAIN: Checks = Checks {
     json: false,
     strict: false,
+    media: false,
 };
 
 /// The boxes that the command `get` asks for.
@@ -96,7 +99,7 @@ pub struct Request {
     pub beyond: bool,
     /// The options about times and rows of samples.
     pub options: SampleOptions,
-    /// The form of faults, and which of them count.
+    /// The form of faults, what is checked, and which faults count.
     pub checks: Checks,
     /// The files, in order; `-` is the standard input. A name that is not UTF-8 has a mark.
     pub files: Vec<String>,
@@ -134,10 +137,12 @@ fn number<'a>(alloc: Global, name: &'a str, help: &'a str) -> Arg<'a> {
 fn check<'a>(alloc: Global) -> Result<Command<'a>, AllocError> {
     let json = "Print an array of JSON objects";
     let strict = "Exit with status 1 for warnings, too";
+    let media = "Check the samples of AVC, HEVC and PCM, too";
     Command::new(alloc, "check")
         .about("Print only faults, one a line, with position and path; nothing if there are none")
         .arg(flag(alloc, "json", json))?
         .arg(flag(alloc, "strict", strict))?
+        .arg(flag(alloc, "media", media))?
         .arg(files(alloc))
 }
 
@@ -280,6 +285,7 @@ fn check_of(alloc: Global, matches: &ArgMatches<'_>) -> Result<Request, AllocErr
         checks: Checks {
             json: matches.get_flag("json"),
             strict: matches.get_flag("strict"),
+            media: matches.get_flag("media"),
         },
         files: files_of(alloc, matches)?,
         place: None,

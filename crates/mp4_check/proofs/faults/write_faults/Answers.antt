@@ -18,43 +18,41 @@ use Rattle.mp4_frame.specs.declared.codes.TheConstants as names
 use Rattle.mp4_walk.specs.Walk.{Walk}
 use Rattle.mp4_walk.specs.declared.tree_box.TreeBox.{TreeBox}
 
-pub returns : goal.returns
-returns g c =
+pub returns-clause-check : goal.returns-clause-check
+returns-clause-check g c =
     let boxes = c.args.boxes.now in
     let known = g.B.Shown.known in
     let reading = g.B.Shown.named_reading in
     let form = c.args.form in
     let start = g.W.Write.contents c.args.output.now.inner in
     let end = g.W.Write.contents c.write_all_faults.new.output.inner in
-    record {
-      check = if_is c.args.walk.now.bytes (λ file bytes. λ is.
-          let one : c.write_boxes.new.walk.bytes ≡ Some file =
-          ap (λ (w : Walk). w.bytes) c.in_ok-with_boxes.ensures.kept ∙ bytes in
-          let two : c.write_movie.new.walk.bytes ≡ Some file =
-          ap (λ (w : Walk). w.bytes) c.in_ok-with_movie.ensures.kept ∙ one in
-          let three : c.file_facts.new.walk.bytes ≡ Some file =
-          ap (λ (w : Walk). w.bytes) c.in_ok-facts.ensures.kept ∙ two in
-          let four : c.write_fragments.new.walk.bytes ≡ Some file =
-          ap (λ (w : Walk). w.bytes) c.in_ok-with_fragments.ensures.kept ∙ three in
-          let met = some_at c.write_boxes.new.walk.bytes file _ one c.in_ok-with_movie.ensures.met is
-          (c.new-met.ensures file) in
-          let facts = some_at c.write_movie.new.walk.bytes file _ two c.in_ok-facts.ensures.value is met in
-          let last = rw c.in_ok-last.ensures.ok at c.one_fault.ensures in
-          subst (λ (bs : List TreeBox).
-          IfOk c.write_all_faults.result (λ (told : Told).
-          Writes form (told_before c.args.any) (faults_in known reading (own.ghosts).reads file bs) start end told)) is
-          (file_written form (told_before c.args.any) c.in_ok-with_boxes.with_boxes c.in_ok-with_movie.with_movie
-          c.in_ok-with_fragments.with_fragments c.in_ok-with_indexes.with_indexes c.write_all_faults.result
-          (faults_of_boxes known reading file [] boxes) (tracks_faults file boxes)
-          (fragment_faults (file_of file boxes)) (index_faults (own.ghosts).reads file boxes (length file))
-          (fault_at 0 (in_file names.MOOV 0) (lacks_movie boxes)) (values_of c.in_ok-last.last.items) start
-          (g.W.Write.contents c.write_boxes.new.output.inner) (g.W.Write.contents c.write_movie.new.output.inner)
-          (g.W.Write.contents c.write_fragments.new.output.inner)
-          (g.W.Write.contents c.write_indexes.new.output.inner) end
-          (some_at c.args.walk.now.bytes file _ bytes c.in_ok-with_boxes.ensures.value)
-          (some_at c.write_boxes.new.walk.bytes file _ one c.in_ok-with_movie.ensures.value is (c.new-met.ensures file))
-          (c.in_ok-with_fragments.ensures.value (file_of file boxes) three refl facts)
-          (some_at c.write_fragments.new.walk.bytes file _ four c.in_ok-with_indexes.ensures.value)
-          (last ∙ ap (λ (w : Option What). fault_at 0 (in_file names.MOOV 0) w) c.lacks_movie.ensures)
-          (rw c.deref.ensures.value at c.write_all_faults.ensures)));
-    }
+    if_is c.args.walk.now.bytes (λ file bytes. λ is.
+    let one : c.write_boxes.new.walk.bytes ≡ Some file =
+    ap (λ (w : Walk). w.bytes) c.in_ok-with_boxes.ensures.kept ∙ bytes in
+    let two : c.write_movie.new.walk.bytes ≡ Some file =
+    ap (λ (w : Walk). w.bytes) c.in_ok-with_movie.ensures.kept ∙ one in
+    let three : c.file_facts.new.walk.bytes ≡ Some file =
+    ap (λ (w : Walk). w.bytes) c.in_ok-facts.ensures.kept ∙ two in
+    let four : c.write_fragments.new.walk.bytes ≡ Some file =
+    ap (λ (w : Walk). w.bytes) c.in_ok-with_fragments.ensures.kept ∙ three in
+    let met = some_at c.write_boxes.new.walk.bytes file _ one c.in_ok-with_movie.ensures.met is
+    (c.new-met.ensures file) in
+    let facts = some_at c.write_movie.new.walk.bytes file _ two c.in_ok-facts.ensures.value is met in
+    let last = rw c.in_ok-last.ensures.ok at c.one_fault.ensures in
+    subst (λ (bs : List TreeBox).
+    IfOk c.write_all_faults.result (λ (told : Told).
+    Writes form (told_before c.args.any) (faults_in known reading (own.ghosts).reads file bs) start end told)) is
+    (file_written form (told_before c.args.any) c.in_ok-with_boxes.with_boxes c.in_ok-with_movie.with_movie
+    c.in_ok-with_fragments.with_fragments c.in_ok-with_indexes.with_indexes c.write_all_faults.result
+    (faults_of_boxes known reading file [] boxes) (tracks_faults file boxes)
+    (fragment_faults (file_of file boxes)) (index_faults (own.ghosts).reads file boxes (length file))
+    (fault_at 0 (in_file names.MOOV 0) (lacks_movie boxes)) (values_of c.in_ok-last.last.items) start
+    (g.W.Write.contents c.write_boxes.new.output.inner) (g.W.Write.contents c.write_movie.new.output.inner)
+    (g.W.Write.contents c.write_fragments.new.output.inner)
+    (g.W.Write.contents c.write_indexes.new.output.inner) end
+    (some_at c.args.walk.now.bytes file _ bytes c.in_ok-with_boxes.ensures.value)
+    (some_at c.write_boxes.new.walk.bytes file _ one c.in_ok-with_movie.ensures.value is (c.new-met.ensures file))
+    (c.in_ok-with_fragments.ensures.value (file_of file boxes) three refl facts)
+    (some_at c.write_fragments.new.walk.bytes file _ four c.in_ok-with_indexes.ensures.value)
+    (last ∙ ap (λ (w : Option What). fault_at 0 (in_file names.MOOV 0) w) c.lacks_movie.ensures)
+    (rw c.deref.ensures.value at c.write_all_faults.ensures)))

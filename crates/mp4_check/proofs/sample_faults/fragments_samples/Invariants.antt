@@ -1,0 +1,21 @@
+-- The faults of the moofs before the rest are appended.
+use Rattle.std.proofs.Common.{◌≡◌, ℕ, length}
+use Rattle.std.specs.BTreeMap.{get}
+use Rattle.std.specs.Ordering.{nat_cmp}
+use Rattle.std.specs.Prelude.{IfSome}
+use Rattle.mp4_check.specs.FaultValues.{values_of}
+use Rattle.mp4_check.specs.SampleFaults.{kinds_at}
+use Rattle.mp4_check.proofs.SampleLoops.{MoofsSoFar}
+use Rattle.mp4_check.proofs.sample_faults.fragments_samples.Given as goal
+
+abbrev pub invariant-moofs : goal.invariant-moofs
+invariant-moofs g l = record {
+  same : l.walk ≡ l.fn.walk;
+  kinds : l.kept.kinds ≡ l.fn.kept.kinds;
+  so_far : IfSome l.fn.walk.bytes (λ file.
+      MoofsSoFar file (λ (q : ℕ). get nat_cmp l.defaults q) (kinds_at l.fn.kept) l.boxes l.rest l.number
+      l.fn.kept.left l.kept.left (values_of l.fn.faults.items) (values_of l.faults.items));
+}
+
+abbrev pub decreases-moofs : goal.decreases-moofs
+decreases-moofs g l = length l.rest
