@@ -4,16 +4,17 @@ _mp4inspect() {
     local word=${COMP_WORDS[COMP_CWORD]} command=${COMP_WORDS[1]} words
     case ${COMP_WORDS[COMP_CWORD - 1]} in
         --rows | --track | --field) return ;;
+        --color) mapfile -t COMPREPLY < <(compgen -W "always never auto" -- "$word"); return ;;
     esac
     case $command in
-        info) words="--json --help" ;;
-        check) words="--json --strict --media --help" ;;
-        get) words="--json --raw --content --field --help" ;;
+        info) words="--json --recursive --help" ;;
+        check) words="--json --strict --media --recursive --help" ;;
+        get) words="--json --raw --content --field --color --help" ;;
         samples) words="--track --json --csv --beyond --seconds --edits --sync --segments --help" ;;
         help) words="info check samples get" ;;
-        *) words="--json --all --rows --wide --help --version" ;;
+        *) words="--json --all --rows --wide --color --recursive --help --version" ;;
     esac
-    ((COMP_CWORD > 1)) || words="info check samples get help --json --all --rows --wide --help --version"
+    ((COMP_CWORD > 1)) || words="info check samples get help $words"
     mapfile -t COMPREPLY < <(
         compgen -W "$words" -- "$word"
         [[ $word == -* || ( $COMP_CWORD -gt 1 && $command == help ) ]] || compgen -f -- "$word"

@@ -400,12 +400,13 @@ def reading(runs, folder):
     named = runs.run("/proc/version")
     if (named.returncode, named.stdout) != (piped.returncode, piped.stdout):
         fail(f"a file of /proc: status {named.returncode}, {named.stdout}, {named.stderr}")
-    for path, what in ((".", "this is a directory, not a file"), ("/dev/null", "this is a device, not a file"),
+    for path, what in ((".", "this is a directory, not a file{}"), ("/dev/null", "this is a device, not a file"),
                        ("/dev/zero", "this is a device, not a file"),
                        ("/proc/self/mem", "read failed: Input/output error (os error 5)"),
                        ("plain.mp4/x", "Not a directory (os error 20)")):
         for words in ([path], ["check", path], ["--json", path], ["samples", path]):
-            runs.ends(words, 3, "[]\n" if "--json" in words else "", f"mp4inspect: {path}: {what}\n")
+            hint = "" if "samples" in words else "; -r reads the files in it"
+            runs.ends(words, 3, "[]\n" if "--json" in words else "", f"mp4inspect: {path}: {what.format(hint)}\n")
     here = os.open(folder, os.O_RDONLY)
     runs.ends(["-"], 3, "", "mp4inspect: -: read failed: Is a directory (os error 21)\n", stdin=here)
     os.close(here)

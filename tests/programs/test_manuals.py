@@ -80,7 +80,7 @@ def compare_options(page, name, command, help_text, tags):
     shown = {it for it in tags if it.startswith("-")}
     compare(page.name, f"option of `{command or name}`", shown, set(options))
     for option, text in options.items():
-        default = re.search(r"\[default: (.*)\]", text)
+        default = re.search(r"\[default: (.*?)\]", text)
         if default and not re.search(rf"\b{re.escape(default[1])}\b", tags.get(option, "")):
             wrong.append(f"{page.name} doesn't say that {option} is {default[1]} if left out")
 

@@ -1,3 +1,4 @@
 pub mod Exit
 pub mod LastError
+pub mod Misspelt
 pub mod Words

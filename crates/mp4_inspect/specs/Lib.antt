@@ -1,4 +1,5 @@
 pub mod Checked
+pub mod Colors
 pub mod Heading
 pub mod Json
 pub mod Listed

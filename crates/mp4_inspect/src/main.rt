@@ -2,6 +2,9 @@
 //! faults, their samples, or the boxes at a path.
 #![tactic(auto)]
 
+ghost use Rattle.std.specs.Prelude.{◌≡◌};
+ghost use Rattle.mp4_inspect.specs.Colors.{has_color};
+
 mod chosen;
 mod get;
 mod outcome;
@@ -13,7 +16,10 @@ mod tree_json;
 mod tree_text;
 
 use get::{Get, Got, get_boxes};
-use mp4_command::{Kept, MISUSE, NOT_UTF_8, escaped, print_error, unreadable, words_of};
+use mp4_command::{
+    FileProgress, Kept, MISUSE, NOT_UTF_8, close_command, escaped, files_below, print_error,
+    unreadable, words_of,
+};
 use mp4_content::{Shown, ShownBox};
 use mp4_inspect_samples::{Choice, Form};
 use mp4_io::{Failure, Input, Output, Steady, flush, or_read, read_all, write_all};
@@ -22,7 +28,7 @@ use mp4_walk::{PathError, Source};
 use outcome::{Outcome, is_silent};
 use pattern::Pattern;
 use program::{Show, check_file, inspect};
-use request::{Place, Request, Rows, Task, request_of};
+use request::{COMMANDS, Color, Place, Request, Rows, Task, request_of};
 use source::{Reading, how_to_read, input_file};
 use std::alloc::{AllocError, Global};
 use std::env::VarError;
@@ -55,9 +61,21 @@ fn is_dumb(rt: &HostRuntime) -> bool {
     }
 }
 
+/// Returns whether lines have colours. `shows` says whether the output is a terminal that shows them.
+fn has_color(color: Color, shows: bool) -> bool
+    ensures { result ≡ has_color color shows }
+{
+    match color {
+        Color::Auto => shows,
+        Color::Always => true,
+        Color::Never => false,
+    }
+}
+
 /// Returns the look of the tree that `request` asks for.
 fn look_of(rt: &HostRuntime, request: &Request) -> Look {
     let is_terminal = rt.stdout().is_terminal();
+    let shows_color = is_terminal && !is_colorless(rt) && !is_dumb(rt);
     Look {
         rows: match request.rows {
             Some(rows) => rows as usize,
@@ -68,7 +86,7 @@ fn look_of(rt: &HostRuntime, request: &Request) -> Look {
         } else {
             usize::MAX
         },
-        color: is_terminal && !is_colorless(rt) && !is_dumb(rt),
+        color: has_color(request.color, shows_color),
     }
 }
 
@@ -111,6 +129,15 @@ fn tell(rt: &HostRuntime, shown: &str, failure: Failure, reason: Option<io::Erro
         (Failure::Read, Some(error)) => eprintln!(rt; "mp4inspect: {shown}: {failure}: {error}"),
         _ => eprintln!(rt; "mp4inspect: {shown}: {failure}"),
     };
+}
+
+/// Returns what is wrong with a directory that is read as a file, with the option that reads it.
+fn directory_fault(file: Named<'_>, task: Task) -> &'static str {
+    if task == Task::Samples || file.get.is_some() {
+        "this is a directory, not a file"
+    } else {
+        "this is a directory, not a file; -r reads the files in it"
+    }
 }
 
 /// Prints to standard error what is wrong with a file that is not read.
@@ -279,7 +306,7 @@ fn inspect_open<W: Write>(
     match how_to_read(&mut source) {
         Ok(Reading::Seeks) => inspect_source::<ShownBox, _, _>(rt, file, source, show, output, any),
         Ok(Reading::Streams) => inspect_stream(rt, file, source, show, output, any),
-        Ok(Reading::Directory) => refuse(rt, file.shown, "this is a directory, not a file"),
+        Ok(Reading::Directory) => refuse(rt, file.shown, directory_fault(file, show.task)),
         Ok(Reading::Device) => refuse(rt, file.shown, "this is a device, not a file"),
         Err(error) => {
             tell(rt, file.shown, Failure::Read, Some(error));
@@ -319,6 +346,13 @@ fn inspect_named<W: Write>(
     }
 }
 
+/// Returns whether the progress of a run can be shown: standard error is a terminal, and lines of the output don't come
+/// in between, or are longer.
+fn can_show_progress(rt: &HostRuntime, request: &Request) -> bool {
+    let has_long_lines = request.task == Task::Check && !request.checks.json;
+    rt.stderr().is_terminal() && !is_dumb(rt) && (has_long_lines || !rt.stdout().is_terminal())
+}
+
 /// Writes the requested output for each file, and stores the worst outcome in `outcome`. A file that can't be read is
 /// skipped.
 fn inspect_all<W: Write>(
@@ -327,11 +361,13 @@ fn inspect_all<W: Write>(
     get: Option<&Get>,
     output: &mut Output<Steady<W>>,
     outcome: &mut Outcome,
+    progress: &mut FileProgress,
 ) -> Result<(), Failure> {
     let look = look_of(rt, request);
     let mut follows = false;
     let mut any = false;
     let is_array = matches!(request.task, Task::Json | Task::InfoJson) || request.checks.json;
+    let is_seen = rt.stdout().is_terminal();
     if is_array {
         write_all(output, b"[")?;
     }
@@ -339,7 +375,7 @@ fn inspect_all<W: Write>(
         let show = Show {
             task: request.task,
             look,
-            several: request.files.len() > 1,
+            several: request.recursive || request.files.len() > 1,
             follows,
             samples: choice_of(request),
             checks: request.checks,
@@ -350,6 +386,10 @@ fn inspect_all<W: Write>(
             return Err(Failure::Write);
         }
         follows = follows || here != Outcome::Failed;
+        if is_seen {
+            flush(output)?;
+        }
+        progress.add();
     }
     if is_array {
         write_all(output, b"]\n")?;
@@ -357,12 +397,20 @@ fn inspect_all<W: Write>(
     flush(output)
 }
 
-/// Shows the requested files. If the pipe of the output is closed, ends silently.
-fn show(rt: &HostRuntime, request: &Request, get: Option<&Get>) -> Result<Outcome, Failure> {
+/// Shows the requested files. If the pipe of the output is closed, ends silently. `outcome` is that of the folders.
+fn show(
+    rt: &HostRuntime,
+    request: &Request,
+    get: Option<&Get>,
+    mut outcome: Outcome,
+) -> Result<Outcome, Failure> {
     let writer = or_read(BufWriter::new(rt.alloc(), rt.stdout()))?;
     let mut output = Output::new(Steady::new(writer));
-    let mut outcome = Outcome::Sound;
-    let Err(failure) = inspect_all(rt, request, get, &mut output, &mut outcome) else {
+    let shows = can_show_progress(rt, request);
+    let mut progress = FileProgress::new(rt, request.files.len(), shows);
+    let run = inspect_all(rt, request, get, &mut output, &mut outcome, &mut progress);
+    progress.clear();
+    let Err(failure) = run else {
         return Ok(outcome);
     };
     let is_closed = output.inner.is_closed();
@@ -390,7 +438,7 @@ fn get_of(alloc: Global, place: &Place) -> Result<Get, PathError> {
 /// Writes what is asked for of the boxes at a path. Returns the exit status.
 fn run_get(rt: &HostRuntime, request: &Request, place: &Place) -> Result<u8, Failure> {
     match get_of(rt.alloc(), place) {
-        Ok(get) => Ok(show(rt, request, Some(&get))?.status()),
+        Ok(get) => Ok(show(rt, request, Some(&get), Outcome::Sound)?.status()),
         Err(PathError::Memory) => Err(Failure::Memory),
         Err(fault) => {
             let path = escaped(rt.alloc(), place.path.as_str())?;
@@ -400,11 +448,57 @@ fn run_get(rt: &HostRuntime, request: &Request, place: &Place) -> Result<u8, Fai
     }
 }
 
+/// Replaces the folders among the files of `request` by the files in them. Returns the outcome: a folder that can't be
+/// read is a failure.
+fn enter_folders(rt: &HostRuntime, request: &mut Request) -> Result<Outcome, Failure> {
+    if !request.recursive {
+        return Ok(Outcome::Sound);
+    }
+    let listed = files_below(rt, "mp4inspect", request.files.as_slice())?;
+    request.files = listed.files;
+    Ok(if listed.failed {
+        Outcome::Failed
+    } else {
+        Outcome::Sound
+    })
+}
+
 /// Carries out a request, and returns the exit status.
-fn run_request(rt: &HostRuntime, request: &Request) -> Result<u8, Failure> {
+fn run_request(rt: &HostRuntime, mut request: Request) -> Result<u8, Failure> {
+    let outcome = enter_folders(rt, &mut request)?;
     match &request.place {
-        Some(place) => run_get(rt, request, place),
-        None => Ok(show(rt, request, None)?.status()),
+        Some(place) => run_get(rt, &request, place),
+        None => Ok(show(rt, &request, None, outcome)?.status()),
+    }
+}
+
+/// Returns a message if the first file of `request` may be a misspelt command: the command line has no command, and no
+/// file has this name.
+fn misspelt(rt: &HostRuntime, request: &Request) -> Result<Option<String>, AllocError> {
+    let is_tree = matches!(request.task, Task::Tree | Task::Json) && request.place.is_none();
+    let Some(word) = request.files.first() else {
+        return Ok(None);
+    };
+    if !is_tree || fs::metadata(rt, word.as_str()).is_ok() {
+        return Ok(None);
+    }
+    let Some(command) = close_command(rt.alloc(), word.as_str(), COMMANDS)? else {
+        return Ok(None);
+    };
+    let word = escaped(rt.alloc(), word.as_str())?;
+    Ok(Some(format!(in rt.alloc();
+        "{word}: no such file or command; did you mean mp4inspect {command}?"
+    )?))
+}
+
+/// Carries out a request, unless its first file may be a misspelt command. Returns the exit status.
+fn run_spelt(rt: &HostRuntime, request: Request) -> Result<u8, Failure> {
+    match misspelt(rt, &request)? {
+        Some(message) => {
+            let _ = eprintln!(rt; "mp4inspect: {message}");
+            Ok(MISUSE)
+        }
+        None => run_request(rt, request),
     }
 }
 
@@ -418,7 +512,7 @@ fn run(rt: &HostRuntime) -> Result<u8, Failure> {
         return Ok(MISUSE);
     }
     match request_of(rt.alloc(), words.as_slice()) {
-        Ok(request) => run_request(rt, &request),
+        Ok(request) => run_spelt(rt, request),
         Err(error) => print_error(rt, &error),
     }
 }

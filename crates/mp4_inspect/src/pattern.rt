@@ -130,7 +130,7 @@ impl Pattern {
     /// Parses `text` as a pattern, such as `moov/trak[*]/tkhd` or `**/pssh`. It is a path as `BoxPath` has it, with
     /// these additions: `*` is any box, `[*]` after a code is every box with this code, and `**/` at the beginning
     /// allows any boxes around the rest. Right after `**/` a code without an index is every box with this code.
-    pub fn parse(alloc: Global, text: &str) -> Result<Pattern, PathError> {
+    pub(crate) fn parse(alloc: Global, text: &str) -> Result<Pattern, PathError> {
         let inner = text.strip_prefix("**/");
         let anywhere = inner.is_some();
         let texts = inner

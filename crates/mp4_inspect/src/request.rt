@@ -50,6 +50,22 @@ const PLAIN: Checks = Checks {
     media: false,
 };
 
+/// The choice of colours.
+#[derive(Clone, Copy, Debug, PartialEq, Eq)]
+pub enum Color {
+    /// On a terminal that shows them, unless `NO_COLOR` is set.
+    Auto,
+    /// Always.
+    Always,
+    /// Never.
+    Never,
+}
+
+/// The commands.
+pub const COMMANDS: &[&str] = &["info", "check", "samples", "get", "help"];
+/// The values of `--color`.
+const COLORS: &[&str] = &["always", "never", "auto"];
+
 /// The boxes that the command `get` asks for.
 #[derive(Debug, Drop)]
 pub struct Place {
@@ -91,6 +107,8 @@ pub struct Request {
     pub rows: Option<u32>,
     /// Keeps lines whole on a terminal.
     pub wide: bool,
+    /// The choice of colours.
+    pub color: Color,
     /// The form of the samples in the output.
     pub samples: Rows,
     /// The track_ID of the track whose samples are written; `None` means all tracks.
@@ -103,6 +121,8 @@ pub struct Request {
     pub checks: Checks,
     /// The files, in order; `-` is the standard input. A name that is not UTF-8 has a mark.
     pub files: Vec<String>,
+    /// True if folders among the files stand for the files in them.
+    pub recursive: bool,
     /// The boxes that the command `get` asks for; `None` for other commands.
     pub place: Option<Place>,
 }
@@ -133,6 +153,27 @@ fn number<'a>(alloc: Global, name: &'a str, help: &'a str) -> Arg<'a> {
         .help(help)
 }
 
+/// Returns the option for folders.
+fn recursive<'a>(alloc: Global) -> Arg<'a> {
+    Arg::new(alloc, "recursive")
+        .short('r')
+        .long("recursive")
+        .action(ArgAction::SetTrue)
+        .help(
+            "Read the files in folders and in the folders below them, in the order of their paths",
+        )
+}
+
+/// Returns the option for colours.
+fn color_option<'a>(alloc: Global) -> Arg<'a> {
+    Arg::new(alloc, "color")
+        .long("color")
+        .value_name("WHEN")
+        .value_parser(COLORS)
+        .default_value("auto")
+        .help("Print colours: auto prints them on a terminal")
+}
+
 /// Returns the command `check`.
 fn check<'a>(alloc: Global) -> Result<Command<'a>, AllocError> {
     let json = "Print an array of JSON objects";
@@ -143,6 +184,7 @@ fn check<'a>(alloc: Global) -> Result<Command<'a>, AllocError> {
         .arg(flag(alloc, "json", json))?
         .arg(flag(alloc, "strict", strict))?
         .arg(flag(alloc, "media", media))?
+        .arg(recursive(alloc))?
         .arg(files(alloc))
 }
 
@@ -154,6 +196,7 @@ fn info<'a>(alloc: Global) -> Result<Command<'a>, AllocError> {
             "Print what a file is: its format, and a line for each track with codec, duration and rates",
         )
         .arg(flag(alloc, "json", json))?
+        .arg(recursive(alloc))?
         .arg(files(alloc))
 }
 
@@ -231,6 +274,7 @@ fn get<'a>(alloc: Global) -> Result<Command<'a>, AllocError> {
         .arg(flag_without(alloc, "raw", raw, "content")?.conflicts_with("field")?)?
         .arg(flag_without(alloc, "content", content, "field")?)?
         .arg(field)?
+        .arg(color_option(alloc))?
         .arg(file(alloc))?
         .arg(path(alloc))
 }
@@ -249,6 +293,8 @@ fn tree<'a>(alloc: Global) -> Result<Command<'a>, AllocError> {
         .arg(flag_without(alloc, "all", all, "rows")?)?
         .arg(number(alloc, "rows", rows).default_value("8"))?
         .arg(flag(alloc, "wide", wide))?
+        .arg(color_option(alloc))?
+        .arg(recursive(alloc))?
         .arg(files(alloc))
 }
 
@@ -272,12 +318,22 @@ fn files_of(alloc: Global, matches: &ArgMatches<'_>) -> Result<Vec<String>, Allo
     Ok(files)
 }
 
+/// Returns the choice of colours.
+fn color_of(matches: &ArgMatches<'_>) -> Color {
+    match matches.get_str("color") {
+        Some("always") => Color::Always,
+        Some("never") => Color::Never,
+        _ => Color::Auto,
+    }
+}
+
 /// Returns the request of the command `check`.
 fn check_of(alloc: Global, matches: &ArgMatches<'_>) -> Result<Request, AllocError> {
     Ok(Request {
         task: Task::Check,
         rows: Some(0),
         wide: true,
+        color: Color::Auto,
         samples: Rows::Text,
         track: None,
         beyond: false,
@@ -288,6 +344,7 @@ fn check_of(alloc: Global, matches: &ArgMatches<'_>) -> Result<Request, AllocErr
             media: matches.get_flag("media"),
         },
         files: files_of(alloc, matches)?,
+        recursive: matches.get_flag("recursive"),
         place: None,
     })
 }
@@ -302,12 +359,14 @@ fn info_of(alloc: Global, matches: &ArgMatches<'_>) -> Result<Request, AllocErro
         },
         rows: Some(0),
         wide: true,
+        color: Color::Auto,
         samples: Rows::Text,
         track: None,
         beyond: false,
         options: ALL_SAMPLES,
         checks: PLAIN,
         files: files_of(alloc, matches)?,
+        recursive: matches.get_flag("recursive"),
         place: None,
     })
 }
@@ -325,6 +384,7 @@ fn samples_of(alloc: Global, matches: &ArgMatches<'_>) -> Result<Request, AllocE
         task: Task::Samples,
         rows: Some(0),
         wide: true,
+        color: Color::Auto,
         samples,
         track: matches.get_one::<u32>("track"),
         beyond: matches.get_flag("beyond"),
@@ -336,6 +396,7 @@ fn samples_of(alloc: Global, matches: &ArgMatches<'_>) -> Result<Request, AllocE
         },
         checks: PLAIN,
         files: files_of(alloc, matches)?,
+        recursive: false,
         place: None,
     })
 }
@@ -371,12 +432,14 @@ fn get_of(alloc: Global, matches: &ArgMatches<'_>) -> Result<Request, AllocError
         },
         rows: None,
         wide: false,
+        color: color_of(matches),
         samples: Rows::Text,
         track: None,
         beyond: false,
         options: ALL_SAMPLES,
         checks: PLAIN,
         files: files_of(alloc, matches)?,
+        recursive: false,
         place: Some(Place {
             path: text_of(alloc, matches, "PATH")?,
             form,
@@ -400,12 +463,14 @@ fn tree_of(alloc: Global, matches: &ArgMatches<'_>) -> Result<Request, AllocErro
         },
         rows,
         wide: matches.get_flag("wide"),
+        color: color_of(matches),
         samples: Rows::Text,
         track: None,
         beyond: false,
         options: ALL_SAMPLES,
         checks: PLAIN,
         files: files_of(alloc, matches)?,
+        recursive: matches.get_flag("recursive"),
         place: None,
     })
 }
@@ -423,7 +488,7 @@ fn asked(alloc: Global, matches: &ArgMatches<'_>) -> Result<Request, AllocError>
 
 /// Returns the request of a command line. The first of its `words` is the program's name. An error has the text to
 /// print and the status with which the program ends: for misuse, the help or the version.
-pub fn request_of(alloc: Global, words: &[String]) -> Result<Request, Error> {
+pub(crate) fn request_of(alloc: Global, words: &[String]) -> Result<Request, Error> {
     let matches = command(alloc)?.try_get_matches_from(words)?;
     Ok(asked(alloc, &matches)?)
 }

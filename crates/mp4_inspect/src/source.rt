@@ -38,7 +38,7 @@ fn position_in(text: &str) -> Option<u64> {
 
 /// Opens the standard input again, if it is a regular file with bytes left. Returns `None` if it is something else, or
 /// if the system does not report its position.
-pub fn input_file(rt: &HostRuntime) -> Option<FileFrom> {
+pub(crate) fn input_file(rt: &HostRuntime) -> Option<FileFrom> {
     let text = fs::read_to_string(rt, "/proc/self/fdinfo/0").ok()?;
     let start = position_in(text.as_str())?;
     let mut file = fs::open(rt, "/proc/self/fd/0").ok()?;
@@ -77,7 +77,7 @@ fn reading_of(is_directory: bool, is_device: bool, seeks: bool) -> Reading
 }
 
 /// Returns how an open file is read, and sets its position to its beginning.
-pub fn how_to_read(file: &mut File) -> io::Result<Reading> {
+pub(crate) fn how_to_read(file: &mut File) -> io::Result<Reading> {
     let kind = file.metadata()?.file_type();
     let seeks = kind.is_file() && file.seek(SeekFrom::End(0)).is_ok();
     if seeks {

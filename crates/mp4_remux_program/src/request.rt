@@ -359,7 +359,7 @@ fn tell_misuse(rt: &HostRuntime, misuse: &Misuse) -> Result<u8, Failure> {
 
 /// Returns the request of the program's command line. If that makes none, prints a message to standard error, or the
 /// help or the version, and returns the exit status.
-pub fn requested(rt: &HostRuntime) -> Result<Result<Request, u8>, Failure> {
+pub(crate) fn requested(rt: &HostRuntime) -> Result<Result<Request, u8>, Failure> {
     let words = words_of(rt.alloc(), rt)?;
     match request_of(rt.alloc(), words.as_slice()) {
         Ok(request) => Ok(Ok(request)),
