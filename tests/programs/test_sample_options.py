@@ -109,8 +109,9 @@ class Options(unittest.TestCase):
         self.assertEqual(self.rows(none, "--json", "--sync"), "[\n]\n")
 
     def test_edits(self):
-        # The media is shown from 10 on after 300 of 600, half a second: at 500 + time - 10. The first sample is not
-        # shown, the second (at 30) is shown at 520, the third (at 20) at 510.
+        # An empty edit of 300/600 seconds, which are 500 ticks of the media, precedes it. The media is shown starting
+        # at 10, so a sample is presented at 500 + time - 10. The first sample is not shown, the second (at 30) is
+        # presented at 520, the third (at 20) at 510.
         data = front() + moov(trak(TABLES, extra=edit_list((300, -1, 1), (600, 10, 1))))
         self.assertEqual(self.rows(data, "--csv", "--edits"), NAMES
                          + "1,1,28,4,0,,10,1,1,1000\n1,2,32,5,10,520,10,0,1,1000\n1,3,37,6,20,510,10,0,1,1000\n")
