@@ -9,7 +9,6 @@ use Rattle.std.specs.Prelude.{◌==◌, length, option_map, unwrap_or, if◌then
 use Rattle.std.specs.declared.option.Option.{Option}
 use Rattle.mp4_check.specs.FaultValues.{Value}
 use Rattle.mp4_check.specs.FragmentFaults.{trafs_of}
-use Rattle.mp4_check.specs.Faults.{movie_in}
 use Rattle.mp4_check.specs.Headers.{track_header}
 use Rattle.mp4_check.specs.Paths.{next}
 use Rattle.mp4_check.specs.SampleFaults.{AreKinds, AreMoofsLooked, AreSampleFaults, AreTracksLooked, AreTrafsLooked}
@@ -23,7 +22,7 @@ use Rattle.mp4_frame.specs.FourCC.{four_cc_of}
 use Rattle.mp4_frame.specs.declared.codes.TheConstants as codes
 use Rattle.mp4_lemmas.proofs.Booleans.{by_bool}
 use Rattle.mp4_movie.specs.Defaults.{defaults_in, trexes}
-use Rattle.mp4_movie.specs.Levels.{Found, all_in, first_in}
+use Rattle.mp4_movie.specs.Levels.{Found, all_in, first_in, movie_in}
 use Rattle.mp4_movie.specs.Movies.{traks}
 use Rattle.mp4_movie.proofs.Levels.{next_in}
 use Rattle.mp4_walk.specs.declared.tree_box.TreeBox.{TreeBox}

@@ -25,7 +25,7 @@ use Rattle.mp4_frame.specs.Reading.{Reading}
 use Rattle.mp4_frame.specs.declared.box_type.BoxType.{BoxType}
 use Rattle.mp4_frame.specs.declared.codes.TheConstants as codes
 use Rattle.mp4_frame.specs.declared.four_cc.FourCC.{FourCC}
-use Rattle.mp4_movie.specs.Levels.{after_of, first_in}
+use Rattle.mp4_movie.specs.Levels.{first_in, movie_in}
 use Rattle.mp4_movie.specs.Movies.{traks}
 use Rattle.mp4_walk.specs.FileBoxes.{boxes_of}
 use Rattle.mp4_walk.specs.declared.tree_box.TreeBox.{TreeBox}
@@ -40,10 +40,6 @@ is_top_file x = (x.depth == 0) && is_file_code x.code
 
 abbrev pub lacks_movie : List TreeBox → Option What
 lacks_movie boxes = if list_any is_top_file boxes then None else Some what.NoMovie
-
--- the boxes after the header of the first `moov`
-abbrev pub movie_in : List TreeBox → List TreeBox
-movie_in boxes = after_of (first_in 0 (four_cc_of codes.MOOV) boxes)
 
 abbrev pub facts_of : List ℕ → List TreeBox → Facts
 facts_of file boxes = record {

@@ -5,7 +5,7 @@ ghost use Rattle.std.specs.BTreeMap.{get};
 ghost use Rattle.std.specs.Ordering.{nat_cmp};
 ghost use Rattle.mp4_check.specs.BoxFaults.{faults_of_boxes};
 ghost use Rattle.mp4_check.specs.FaultValues.{fault_at, values_of};
-ghost use Rattle.mp4_check.specs.Faults.{WritesCheck, facts_of, file_of, is_top_file, lacks_movie, movie_in};
+ghost use Rattle.mp4_check.specs.Faults.{WritesCheck, facts_of, file_of, is_top_file, lacks_movie};
 ghost use Rattle.mp4_check.specs.Faults.{tracks_faults};
 ghost use Rattle.mp4_check.specs.FragmentFaults.{AreFacts, File, IsGoing, Times, faults_of_trafs, found_at};
 ghost use Rattle.mp4_check.specs.FragmentFaults.{fragment_faults, times_after, trafs_of};
@@ -19,7 +19,7 @@ ghost use Rattle.mp4_check.specs.declared.fault.What.TheVariants as whats;
 ghost use Rattle.mp4_frame.specs.FourCC.{four_cc_of};
 ghost use Rattle.mp4_frame.specs.declared.codes.TheConstants as names;
 ghost use Rattle.mp4_movie.specs.Defaults.{defaults_in, trexes};
-ghost use Rattle.mp4_movie.specs.Levels.{all_in, first_in};
+ghost use Rattle.mp4_movie.specs.Levels.{all_in, first_in, movie_in};
 ghost use Rattle.mp4_movie.specs.Movies.{traks};
 ghost use Rattle.mp4_walk.specs.FileBoxes.{boxes_of};
 ghost use Rattle.mp4_walk.specs.declared.tree_box.TreeBox.{TreeBox};
@@ -40,7 +40,7 @@ use mp4_flat::TrexBox;
 use mp4_frame::ReadBox;
 use mp4_frame::codes::{MOOF, MOOV, MVEX, MVHD, SIDX, TRAF, TRAK};
 use mp4_io::{Failure, Output, or_read};
-use mp4_movie::{BoxLocation, Defaults, defaults_of, first_in};
+use mp4_movie::{BoxLocation, Defaults, defaults_of, first_in, has_box, movie_in};
 use mp4_show::Result;
 use mp4_stream::FourCC;
 use mp4_walk::{BoxWalk, Source, TreeBox};
@@ -72,26 +72,6 @@ fn write_boxes<B: Shown, S: Source, W: Write>(
         written = more;
     }
     Ok(written)
-}
-
-/// Returns the boxes after the header of the first `moov` in `boxes`, or none if there is no `moov`.
-pub fn movie_in(boxes: &[TreeBox]) -> &[TreeBox]
-    ensures { result.now ≡ movie_in boxes.now }
-{
-    match first_in(boxes, 0, MOOV) {
-        Some(movie) => movie.after,
-        None => &[],
-    }
-}
-
-/// Returns whether there is a box with `code` in the level of `depth` in which `boxes` begins.
-fn has_box(boxes: &[TreeBox], depth: u64, code: u32) -> bool
-    ensures { result ≡ is_some (first_in depth (four_cc_of code) boxes.now) }
-{
-    match first_in(boxes, depth, code) {
-        Some(_) => true,
-        None => false,
-    }
 }
 
 /// Returns what the rules of tracks need of a movie. `movie` begins with the boxes inside its `moov`.

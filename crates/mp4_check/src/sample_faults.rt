@@ -21,7 +21,7 @@ ghost use Rattle.mp4_movie.specs.Levels.{Found, after_of, all_in};
 ghost use Rattle.mp4_check.specs.TrackSamples.{LooksTrack};
 
 use crate::fault::{Fault, Reason, What};
-use crate::faults::{movie_in, track_defaults};
+use crate::faults::track_defaults;
 use crate::fragments::{TrafPlace, push_fault as push_fragment_fault};
 use crate::headers::{TrackHeader, track_header};
 use crate::lines::{Form, Told, write_all_faults};
@@ -36,7 +36,7 @@ use mp4_content::or_memory;
 use mp4_flat::TrexBox;
 use mp4_frame::codes::{MDIA, MINF, MOOF, STBL, TRAF, TRAK};
 use mp4_io::{Failure, Output, read_failure};
-use mp4_movie::{BoxLocation, MovieError, TrackFragment, first_in, fragment_of, traf_in};
+use mp4_movie::{BoxLocation, MovieError, TrackFragment, first_in, fragment_of, movie_in, traf_in};
 use mp4_show::Result;
 use mp4_walk::{BoxWalk, Source, TreeBox};
 use std::alloc::Global;

@@ -13,7 +13,7 @@ use Rattle.mp4_frame.specs.Reading.{Reading}
 use Rattle.mp4_frame.specs.declared.codes.TheConstants as codes
 use Rattle.mp4_frame.specs.declared.four_cc.FourCC.{FourCC}
 use Rattle.mp4_info.specs.Codecs.{hevc_text, in_entry}
-use Rattle.mp4_info.specs.Facts.{AreTracks, InfoReadings, facts_if, heads_in, known, movie_in, samples_in}
+use Rattle.mp4_info.specs.Facts.{AreTracks, InfoReadings, facts_if, heads_in, known, samples_in}
 use Rattle.mp4_info.specs.Found.{found}
 use Rattle.mp4_info.specs.RunTimes.{fragment_times_by}
 use Rattle.mp4_info.specs.Totals.{pieces_of}
@@ -24,7 +24,7 @@ use Rattle.mp4_info.specs.declared.facts.TrackFacts.{TrackFacts}
 use Rattle.mp4_info.specs.declared.totals.Piece.{Piece}
 use Rattle.mp4_info.specs.declared.track_pieces.AllPieces.{AllPieces}
 use Rattle.mp4_info.proofs.Tracks.{TracksSoFar, tracks_end}
-use Rattle.mp4_movie.specs.Levels.{all_in, first_in}
+use Rattle.mp4_movie.specs.Levels.{all_in, first_in, movie_in}
 use Rattle.mp4_movie.specs.Tables.{tables_in}
 use Rattle.mp4_movie.specs.declared.moof.MoofFragments.{MoofFragments}
 use Rattle.mp4_movie.specs.declared.sample_boxes.SampleBoxes.{SampleBoxes}

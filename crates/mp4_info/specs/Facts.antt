@@ -28,7 +28,7 @@ use Rattle.mp4_info.specs.declared.facts.TrackFacts.{TrackFacts}
 use Rattle.mp4_info.specs.declared.headers.Headers.{Headers}
 use Rattle.mp4_info.specs.declared.totals.Piece.{Piece}
 use Rattle.mp4_movie.specs.Fragments.{AreFragments}
-use Rattle.mp4_movie.specs.Levels.{Found, after_of, first_in}
+use Rattle.mp4_movie.specs.Levels.{Found, after_of, first_in, movie_in}
 use Rattle.mp4_movie.specs.Movies.{traks}
 use Rattle.mp4_movie.specs.Problems.{Problem}
 use Rattle.mp4_movie.specs.Tables.{tables_in}
@@ -130,10 +130,6 @@ are_known (t ∷ ts) = is_track_known t && are_known ts
 abbrev pub is_known : FileFacts → Bool
 is_known t =
     ((is_some t.movie || not (length t.fragments.items == 0)) || t.has_items) && are_known t.tracks.items
-
--- the boxes inside the first `moov`
-abbrev pub movie_in : List TreeBox → List TreeBox
-movie_in boxes = after_of (first_in 0 (four_cc_of codes.MOOV) boxes)
 
 abbrev pub movie_timescale : Option MvhdBox → ℕ
 movie_timescale None = 0

@@ -13,7 +13,7 @@ ghost use Rattle.mp4_show.specs.Texts.{code_shown};
 use crate::av1::push_av1;
 use crate::avc::push_avc;
 use crate::dolby::push_dolby;
-use crate::found::{found, inside, readable};
+use crate::found::{found, readable};
 use crate::hevc::push_hevc;
 use crate::mpeg4::{push_mpeg4_audio, push_mpeg4_video};
 use crate::vp::push_vp;
@@ -29,7 +29,7 @@ use mp4_frame::codes::{
 };
 use mp4_frame::{FourCC, ReadBox, codes};
 use mp4_io::{Failure, or_read};
-use mp4_movie::{first_in, read_at};
+use mp4_movie::{first_in, inside, read_at};
 use mp4_show::push_code;
 use mp4_sound::EsdsBox;
 use mp4_walk::{BoxWalk, Source, TreeBox};

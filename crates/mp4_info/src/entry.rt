@@ -7,7 +7,7 @@ ghost use Rattle.mp4_info.specs.Entries.{key_of, original_of, picture_if, protec
 ghost use Rattle.mp4_movie.specs.Levels.{found_of};
 
 use crate::codec::{DEPTH, EntryBoxes, ReadsEntries, codec_in};
-use crate::found::{found, inside};
+use crate::found::found;
 use crate::picture::{Picture, picture_in};
 use crate::sound::{Sound, sound_in};
 use mp4_extra_media::clli::ClliBox;
@@ -23,7 +23,7 @@ use mp4_extra_segments::tenc::TencBox;
 use mp4_frame::codes::{ENCA, ENCV};
 use mp4_frame::{FourCC, ReadBox, codes};
 use mp4_io::Failure;
-use mp4_movie::{BoxLocation, first_in};
+use mp4_movie::{BoxLocation, first_in, inside};
 use mp4_walk::{BoxWalk, Source, TreeBox, is_video_handler};
 use std::alloc::Global;
 

@@ -7,13 +7,13 @@ ghost use Rattle.mp4_frame.specs.FourCC.{four_cc_of};
 ghost use Rattle.mp4_frame.specs.declared.codes.TheConstants as names;
 ghost use Rattle.mp4_info.specs.Facts.{AreTracks, HasContents, InfoReadings, IsFile, IsFileBy, IsTrack, first_time};
 ghost use Rattle.mp4_info.specs.Facts.{fragment_time, heads_in};
-ghost use Rattle.mp4_info.specs.Facts.{facts_if, handler_of, is_fragmented, known, movie_in, movie_timescale, order_of};
+ghost use Rattle.mp4_info.specs.Facts.{facts_if, handler_of, is_fragmented, known, movie_timescale, order_of};
 ghost use Rattle.mp4_info.specs.Facts.{are_known, is_known, is_track_known};
 ghost use Rattle.mp4_info.specs.Facts.{longest, sample_facts, samples_in, stbl_in, thousandths_of, track_duration};
 ghost use Rattle.mp4_info.specs.RunTimes.{fragment_times};
 ghost use Rattle.mp4_info.specs.Totals.{sample_time};
 ghost use Rattle.mp4_info.specs.TrackPieces.{AreByTrack, pieces_in, times_in};
-ghost use Rattle.mp4_movie.specs.Levels.{all_in, first_in, found_of};
+ghost use Rattle.mp4_movie.specs.Levels.{all_in, first_in, found_of, movie_in};
 ghost use Rattle.mp4_movie.specs.Problems.{Problem, Returns};
 ghost use Rattle.mp4_movie.specs.Tables.{tables_in};
 ghost use Rattle.mp4_movie.specs.declared.moof.MoofFragments.{MoofFragments};
@@ -21,7 +21,7 @@ ghost use Rattle.mp4_walk.specs.FileBoxes.{boxes_of};
 
 use crate::durations::{Duration, duration_of};
 use crate::entry::{Entry, EntryReading, ReadsEntry, first_entry};
-use crate::found::{found, inside};
+use crate::found::found;
 use crate::headers::{
     HeaderBoxes, Headers, ReadsHeaders, headers_in, id_of, media_in, timescale_of,
 };
@@ -36,7 +36,7 @@ use mp4_frame::{ReadBox, codes};
 use mp4_io::{Failure, or_read, read_failure};
 use mp4_movie::{
     BoxError, BoxLocation, MoofFragments, Movie, MovieError, SampleBoxes, TrackFragment, first_in,
-    tables_in,
+    has_box, inside, movie_in, tables_in,
 };
 use mp4_tables::SttsEntry;
 use mp4_text::{FtypBox, HdlrBox};
@@ -377,21 +377,11 @@ pub fn is_known(facts: &FileFacts) -> bool
         && are_known(&facts.tracks)
 }
 
-/// Returns whether there is a box with `code` in a level.
-fn has_box(level: &[TreeBox], depth: u64, code: u32) -> bool
-    ensures { result ≡ is_some (first_in depth (four_cc_of code) level.now) }
-{
-    match first_in(level, depth, code) {
-        Some(_) => true,
-        None => false,
-    }
-}
-
 /// Returns whether a file with these boxes is fragmented.
 fn is_fragmented(boxes: &[TreeBox]) -> bool
     ensures { result ≡ is_fragmented boxes.now }
 {
-    has_box(inside(boxes, 0, codes::MOOV), 1, codes::MVEX) || has_box(boxes, 0, codes::MOOF)
+    has_box(movie_in(boxes), 1, codes::MVEX) || has_box(boxes, 0, codes::MOOF)
 }
 
 /// Returns whether a `moov` at `movie` is before an `mdat` at `media`, if both are present.
@@ -484,7 +474,7 @@ fn heads_in<S: Source>(
         (λ file. IfOk result (λ r. r ≡ heads_in ⟦<InfoBoxes as ReadsInfo>⟧.readings file boxes.now)) }
     ensures kept { walk.new ≡ walk.old }
 {
-    let inside_movie = inside(boxes, 0, codes::MOOV);
+    let inside_movie = movie_in(boxes);
     Ok(Heads {
         brands: found::<FtypBox, S>(alloc, walk, boxes, 0, codes::FTYP)?,
         movie: found::<MvhdBox, S>(alloc, walk, inside_movie, 1, codes::MVHD)?,
@@ -514,7 +504,7 @@ fn contents_in<S: Source>(
         (HasContents ⟦<InfoBoxes as ReadsInfo>⟧.readings file boxes.now moofs.now movie_timescale)) }
     ensures kept { walk.new ≡ walk.old }
 {
-    let inside_movie = inside(boxes, 0, codes::MOOV);
+    let inside_movie = movie_in(boxes);
     let fragments = all_pieces(alloc, moofs)?;
     let tracks = tracks_in(alloc, walk, inside_movie, &fragments, movie_timescale)?;
     let tags = tags_in(alloc, walk, inside_movie)?;

@@ -4,7 +4,7 @@ ghost use Rattle.std.specs.Prelude.{◌≡◌, Result, IfOk, IfSome};
 ghost use Rattle.mp4_frame.specs.FourCC.{four_cc_of};
 ghost use Rattle.mp4_frame.specs.Reading.{Fault};
 ghost use Rattle.mp4_info.specs.Found.{found, readable};
-ghost use Rattle.mp4_movie.specs.Levels.{after_of, first_in};
+ghost use Rattle.mp4_movie.specs.Levels.{first_in};
 ghost use Rattle.mp4_movie.specs.Reads.{IsReadAs};
 
 use mp4_frame::ReadBox;
@@ -40,14 +40,4 @@ pub fn found<B: ReadBox + Drop, S: Source>(
     };
     let read = or_read(read_at::<B, S>(alloc, walk, &place.found))?;
     Ok(readable(read))
-}
-
-/// Returns the boxes after the header of the first box with `code` in a level, or none without such a box.
-pub fn inside(level: &[TreeBox], depth: u64, code: u32) -> &[TreeBox]
-    ensures { result.now ≡ after_of (first_in depth (four_cc_of code) level.now) }
-{
-    match first_in(level, depth, code) {
-        Some(place) => place.after,
-        None => &[],
-    }
 }

@@ -4,7 +4,7 @@ ghost use Rattle.std.specs.Prelude.{◌≡◌, IfOk, IfSome};
 ghost use Rattle.mp4_info.specs.Headers.{HeaderReadings, edits_in, headers_in, id_of, language, letters_of, media_in};
 ghost use Rattle.mp4_info.specs.Headers.{timescale_of, turn};
 
-use crate::found::{found, inside};
+use crate::found::found;
 use crate::languages::{language_of, letters_or_und};
 use crate::rotation::rotation_of;
 use mp4_extra_segments::elng::ElngBox;
@@ -12,6 +12,7 @@ use mp4_extra_segments::tref::TrefBox;
 use mp4_flat::{MdhdBox, TkhdBox};
 use mp4_frame::{ReadBox, codes};
 use mp4_io::Failure;
+use mp4_movie::inside;
 use mp4_tables::ElstBox;
 use mp4_text::HdlrBox;
 use mp4_walk::{BoxWalk, Source, TreeBox};

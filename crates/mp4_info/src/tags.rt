@@ -5,10 +5,11 @@ ghost use Rattle.mp4_extra_segments.specs.declared.data.Data.{Data};
 ghost use Rattle.mp4_frame.specs.Reading.{Reading};
 ghost use Rattle.mp4_info.specs.Tags.{items_in, tag_of, tags_at, tags_in, tags_of};
 
-use crate::found::{found, inside};
+use crate::found::found;
 use mp4_extra_segments::data::DataBox;
 use mp4_frame::{FourCC, ReadBox, codes};
 use mp4_io::Failure;
+use mp4_movie::inside;
 use mp4_walk::{BoxWalk, Source, TreeBox};
 use std::alloc::{AllocError, Global};
 

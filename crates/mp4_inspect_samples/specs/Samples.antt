@@ -12,7 +12,7 @@ use Rattle.mp4_frame.specs.declared.codes.TheConstants as codes
 use Rattle.mp4_movie.specs.Defaults.{AreFaults, trexes}
 use Rattle.mp4_movie.specs.Fragments.{AreFragments}
 use Rattle.mp4_movie.specs.Infos.{AreInfos}
-use Rattle.mp4_movie.specs.Levels.{Found, after_of, all_in, first_in}
+use Rattle.mp4_movie.specs.Levels.{Found, all_in, first_in, movie_in}
 use Rattle.mp4_movie.specs.Movies.{samples_of, traks}
 use Rattle.mp4_movie.specs.declared.error.BoxError.{BoxError}
 use Rattle.mp4_movie.specs.declared.error.BoxError.TheVariants as errors
@@ -190,10 +190,6 @@ abbrev pub box_fault : BoxError → TrackFault
 box_fault e = record { track = None; fault = faults.Box e }
 
 -- ---- the file
-
--- the boxes after the header of the first moov
-abbrev pub movie_in : List TreeBox → List TreeBox
-movie_in boxes = after_of (first_in 0 (four_cc_of codes.MOOV) boxes)
 
 -- the parts of the movie of a file: the faults of its `trex` boxes, the fragments of each `moof`, the headers of the
 -- tracks

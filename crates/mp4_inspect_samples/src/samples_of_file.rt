@@ -1,9 +1,6 @@
 //! Writing the samples of a file.
 
 ghost use Rattle.std.specs.Prelude.{◌≡◌, ◌++◌, map, IfOk, IfSome, OnOk, Some};
-ghost use Rattle.mp4_frame.specs.FourCC.{four_cc_of};
-ghost use Rattle.mp4_frame.specs.declared.codes.TheConstants as names;
-ghost use Rattle.mp4_movie.specs.Levels.{after_of, first_in};
 ghost use Rattle.mp4_walk.specs.FileBoxes.{boxes_of};
 ghost use Rattle.mp4_inspect_samples.specs.Chosen.{WritesChosen};
 ghost use Rattle.mp4_inspect_samples.specs.Samples.{AreParts, WritesSamples, box_fault, is_movie, limit_of};
@@ -19,7 +16,7 @@ use crate::segments::write_segments;
 use crate::tracks::{Ahead, keep_absent, write_tracks};
 use mp4_frame::codes::{MOOF, MOOV};
 use mp4_io::{Failure, Output, or_read};
-use mp4_movie::{BoxError, Defaults, MoofFragments, Movie, TrackInfo, first_in};
+use mp4_movie::{BoxError, Defaults, MoofFragments, Movie, TrackInfo, has_box, movie_in};
 use mp4_walk::{BoxWalk, Source, TreeBox};
 use std::alloc::{AllocError, Global};
 use std::io::Write;
@@ -67,21 +64,11 @@ pub fn keep_errors(errors: Vec<BoxError>, faults: &mut Vec<TrackFault>) -> Resul
     Ok(())
 }
 
-/// Returns the boxes after the header of the first `moov` in `boxes`, or none if there is no `moov`.
-pub fn movie_in(boxes: &[TreeBox]) -> &[TreeBox]
-    ensures { result.now ≡ after_of (first_in 0 (four_cc_of names.MOOV) boxes.now) }
-{
-    match first_in(boxes, 0, MOOV) {
-        Some(movie) => movie.after,
-        None => &[],
-    }
-}
-
 /// Returns whether a file with the boxes `boxes` has a `moov` or a `moof`.
 fn is_movie(boxes: &[TreeBox]) -> bool
     ensures { result ≡ is_movie boxes.now }
 {
-    first_in(boxes, 0, MOOV).is_some() || first_in(boxes, 0, MOOF).is_some()
+    has_box(boxes, 0, MOOV) || has_box(boxes, 0, MOOF)
 }
 
 /// Stores the fault of a file with the boxes `boxes` that has no `moov` and no `moof`.

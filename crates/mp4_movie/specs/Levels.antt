@@ -2,6 +2,8 @@
 -- the first box of a smaller depth.
 use Rattle.std.specs.Prelude.{ℕ, nat_lt, List, [], ◌∷◌, None, Some, if◌then◌else◌}
 use Rattle.std.specs.declared.option.Option.{Option}
+use Rattle.mp4_frame.specs.FourCC.{four_cc_of}
+use Rattle.mp4_frame.specs.declared.codes.TheConstants as codes
 use Rattle.mp4_frame.specs.declared.four_cc.FourCC.{FourCC}
 use Rattle.mp4_walk.specs.Paths.{is_meant}
 use Rattle.mp4_walk.specs.declared.tree_box.TreeBox.{TreeBox}
@@ -34,3 +36,7 @@ all_in d code (x ∷ xs) =
 abbrev pub after_of : Option Found → List TreeBox
 after_of None = []
 after_of (Some f) = f.after
+
+-- the boxes of the movie of a file, and those after it
+abbrev pub movie_in : List TreeBox → List TreeBox
+movie_in boxes = after_of (first_in 0 (four_cc_of codes.MOOV) boxes)

@@ -8,7 +8,7 @@ ghost use Rattle.mp4_movie.specs.Defaults.{AreDefaults, errors_of, of_track, ok_
 
 use crate::error::BoxError;
 use crate::found::value_at;
-use crate::level::{after_first_in, first_in};
+use crate::level::{first_in, inside, movie_in};
 use mp4_flat::TrexBox;
 use mp4_frame::codes;
 use mp4_walk::{BoxWalk, Source, TreeBox};
@@ -70,7 +70,7 @@ pub fn defaults_of<S: Source>(
         by_track: BTreeMap::new(alloc),
         faults: Vec::new(alloc),
     };
-    let mut rest = after_first_in(after_first_in(boxes, 0, codes::MOOV), 1, codes::MVEX);
+    let mut rest = inside(movie_in(boxes), 1, codes::MVEX);
     while let Some(place) = first_in(rest, 2, codes::TREX) {
         let trex = value_at::<TrexBox, S>(alloc, walk, codes::TREX, &place.found)?;
         keep(trex, &mut defaults)?;

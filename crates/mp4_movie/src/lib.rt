@@ -24,7 +24,7 @@ pub use defaults::{Defaults, defaults_of};
 pub use error::{BoxError, MovieError};
 pub use fragment::fragment_of;
 pub use info::TrackInfo;
-pub use level::{BoxLocation, boxes_after, first_in};
+pub use level::{BoxLocation, boxes_after, first_in, has_box, inside, movie_in};
 pub use moof::MoofFragments;
 pub use movie::Movie;
 pub use reading::read_at;
