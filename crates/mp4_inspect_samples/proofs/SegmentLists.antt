@@ -68,7 +68,7 @@ err_first (x ∷ xs) r e some is err =
 
 -- ---- the rows
 
--- the rows of the moofs that are left come after those before them. `now` are the times of the tracks by then
+-- the rows of the remaining moofs follow those of the moofs before them, at which the tracks have the times `now`
 abbrev pub SegmentsSoFar : SegmentRule → (ℕ → TrackTime) → Bool → List Found → List MoofFragments → Option (List ℕ)
     → (ℕ → TrackTime) → Bool → ℕ → List Found → List MoofFragments → Option (List ℕ) → Type 0
 SegmentsSoFar rule times follows fs ms old now between n rest left mid =
@@ -155,7 +155,7 @@ segments_end rule times follows fs ms old now between n rest left mid is known =
 
 -- ---- the faults
 
--- the faults of the moofs that are left come after those before them
+-- the faults of the remaining moofs follow those of the moofs before them
 abbrev pub FaultsSoFar : List TrackFault → List Found → List MoofFragments → List TrackFault → List TreeBox
     → List MoofFragments → Type 0
 FaultsSoFar before fs ms now rest left =

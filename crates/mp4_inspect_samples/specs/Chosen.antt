@@ -1,4 +1,4 @@
--- What is asked for of a file.
+-- The parts of a file that the command line asks for.
 use Rattle.std.specs.Prelude.{ℕ, Bool, true, false, List}
 use Rattle.std.specs.declared.option.Option.{Option}
 use Rattle.mp4_inspect_samples.specs.Samples.{WritesSamples}

@@ -35,7 +35,8 @@ IsEdited l s (shown.Edited ticks per_second units) =
 IsEdited l s shown.Never =
     CompositionTime s None ⊎ ((time : ℕ) × CompositionTime s (Some time) × FirstPresentation l 0 time None)
 
--- When a sample is presented: without an edit list its rendering offset after it is decoded (8.6.1.3 and 8.8.8).
+-- The time at which a sample is presented. Without an edit list it is the composition time: the decoding time plus the
+-- composition offset (8.6.1.3 and 8.8.8).
 abbrev pub IsShown : Option EditList → Sample → Shown → Type 0
 IsShown None s t = t ≡ shown.At (composition_time s)
 IsShown (Some l) s t = IsEdited l s t

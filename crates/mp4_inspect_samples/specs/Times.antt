@@ -7,7 +7,7 @@ use Rattle.mp4_inspect_samples.specs.declared.clock.Clock.{Clock}
 use Rattle.mp4_inspect_samples.specs.declared.row.Shown.{Shown}
 use Rattle.mp4_inspect_samples.specs.declared.row.Shown.TheVariants as shown
 
--- a time in millionths of a second of so many ticks, rounded to the nearest; halves are rounded up
+-- the time in millionths of a second, rounded to the nearest. A second has `ticks`. Halves are rounded up
 abbrev pub millionths : ℕ → ℕ → ℕ
 millionths ticks time = (2 * time * 1000000 + ticks) / (2 * ticks)
 
@@ -19,7 +19,7 @@ six_digits n = replicate (6 - length (decimal n)) 48 ++ decimal n
 unfoldable pub fraction : ℕ → List ℕ
 fraction n = decimal (n / 1000000) ++ (codes "." ++ six_digits (n % 1000000))
 
--- seconds of so many ticks, or another text if a second has none
+-- the time in seconds of `ticks` each, or the text `unknown` if a second has no ticks
 abbrev pub seconds_text : List ℕ → ℕ → ℕ → List ℕ
 seconds_text unknown ticks time = if nat_lt 0 ticks then fraction (millionths ticks time) else unknown
 

@@ -6,7 +6,7 @@ ghost use Rattle.mp4_inspect_samples.specs.Row.{IsShown, edits_in, labels_of, ro
 use crate::clock::Clock;
 use mp4_samples::{Edits, Sample};
 
-/// When a sample is presented.
+/// The time at which a sample is presented.
 #[derive(Clone, Copy, Debug, PartialEq, Eq)]
 pub enum Shown {
     /// At this time in the timescale of the media, without edits.

@@ -30,7 +30,8 @@ use std::collections::BTreeMap;
 pub struct TrackTime {
     /// The timescale of its media, in ticks a second, if it is known.
     pub timescale: Option<u32>,
-    /// The end of its samples so far, in that timescale, if it is known. 2^64 - 1 stands for all later times.
+    /// The end of the samples that were read before, in that timescale, if it is known. 2^64 - 1 stands for all later
+    /// times.
     pub end: Option<u64>,
 }
 

@@ -1,4 +1,4 @@
--- The samples from the index on lead from the end so far to that of all.
+-- The end of all samples is that of the samples starting at the index, after the end that was found before them.
 use Rattle.std.proofs.Common.{◌≡◌, drop}
 use Rattle.mp4_info.specs.Composition.{listed_end}
 use Rattle.mp4_info.proofs.composition.listed_end.Given as goal
