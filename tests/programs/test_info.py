@@ -188,6 +188,25 @@ class Info(unittest.TestCase):
                 self.assertEqual(found["duration"]["ticks"], ticks * 600)
                 self.assertEqual(found["media_duration"]["ticks"], 2048)
 
+    def test_open_edits_of_tables(self):
+        """Samples are counted with their durations, and with their composition offsets. The edit shows the media
+        starting at unit 512."""
+        for durations, shifts, ticks in (
+                ([(4, 512)], [(1, 512), (1, 1536), (2, 0)], 2048), ([(4, 512)], [(1, 1024)], 1536),
+                ([(4, 512)], [(4, -512)], 1024), ([(2, 512), (2, 1024)], [(3, 256), (1, 0)], 2560),
+                ([(1, 100), (0, 9), (3, 500)], [(0, 9000), (2, 400), (1, 700), (1, 100), (5, 9000)], 1288),
+                ([(4, 512)], [(6, 100)], 1636), ([(4, 512)], [], 1536), ([(2, 512), (2, 0)], [(2, 0)], 512)):
+            stts = full(b"stts", 0, 0, be(4, len(durations)) + b"".join(be(4, *row) for row in durations))
+            ctts = full(b"ctts", 1, 0, be(4, len(shifts)) + b"".join(be(4, *row) for row in shifts))
+            tables = (stts + ctts + full(b"stsc", 0, 0, be(4, 1, 1, 4, 1)) + full(b"stsz", 0, 0, be(4, 1, 4))
+                      + full(b"stco", 0, 0, be(4, 1, MEDIA)))
+            elst = full(b"elst", 0, 0, be(4, 1, 0, 512) + be(2, 1, 0))
+            video = track(1, b"vide", b"", b"und", [visual(b"avc1", 64, 48, b"", b"")], tables)
+            data = front(4) + movie(box(b"trak", video[8:] + box(b"edts", elst)))
+            with self.subTest(durations=durations, shifts=shifts):
+                self.compared(data, "tables")
+                self.assertEqual(self.object_of(data)["tracks"][0]["duration"]["ticks"], ticks * 600)
+
     def test_turns(self):
         one, minus = 0x10000, -0x10000
         for (a, b, c, d), degrees in (((one, 0, 0, one), 0), ((0, one, minus, 0), 90), ((minus, 0, 0, minus), 180),

@@ -230,17 +230,33 @@ def samples_in(default, values, count, rows):
     return [(1, row["duration"], row["size"], row["flags"], row.get("shift", 0)) for row in rows]
 
 
+def shown_ends(durations, shifts):
+    """Yields the composition time at which the last one of consecutive samples ends that have one duration and one
+    composition offset."""
+    shifts, time = [list(shift) for shift in shifts], 0
+    for count, duration in durations:
+        while count:
+            while shifts and shifts[0][0] == 0:
+                del shifts[0]
+            taken, offset = (min(count, shifts[0][0]), shifts[0][1]) if shifts else (count, 0)
+            time, count = time + taken * duration, count - taken
+            if shifts:
+                shifts[0][0] -= taken
+            yield time + offset
+
+
 def samples_of(data, file, stbl, track_id):
     """Returns what the tables and the fragments of a track say of its samples, and None if the tables can't be read.
-    Tables that disagree are counted as they are. `shown` is the largest composition time at which a sample ends.
-    Samples of tables end at their decoding times there."""
-    tables = readable(tables_of, data, stbl) if stbl else {"sizes": (0, 0, []), "durations": [], "sync": None}
+    Tables that disagree are counted as they are. `shown` is the largest composition time at which a sample ends."""
+    none = {"sizes": (0, 0, []), "durations": [], "shifts": [], "sync": None}
+    tables = readable(tables_of, data, stbl) if stbl else none
     if tables is None:
         return None
     count, one, sizes = tables["sizes"]
     keys = count if tables["sync"] is None else sum(1 <= each <= count for each in tables["sync"])
     total, durations = one * count + sum(sizes), list(tables["durations"])
-    shown = end = sum(samples * duration for samples, duration in durations)
+    end = sum(samples * duration for samples, duration in durations)
+    shown = max(shown_ends(durations, tables["shifts"]), default=0)
     for _, start, runs in fragments_of(file, track_id):
         listed = [sample for run in runs for sample in run]
         durations += [(samples, duration) for samples, duration, *_ in listed]
@@ -251,7 +267,8 @@ def samples_of(data, file, stbl, track_id):
         for samples, duration, _, _, shift in listed:
             end += samples * duration
             shown = max(shown, end + shift) if samples else shown
-    return {"samples": count, "key_frames": keys, "bytes": total, "durations": durations, "end": end, "shown": shown}
+    return {"samples": count, "key_frames": keys, "bytes": total, "durations": durations, "end": end,
+            "shown": max(shown, 0)}
 
 
 def rates_of(found, scale):

@@ -5,7 +5,7 @@ from fractions import Fraction
 
 from tests.files.faulty import front
 from tests.files.made import be, box, full, movie, sound, tkhd, track, visual
-from tests.readers.info import as_json, duration_of, frame_rate, info, lines
+from tests.readers.info import as_json, duration_of, frame_rate, info, lines, shown_ends
 
 # The offset of the media data, after an `ftyp` of 20 bytes and the header of the `mdat`.
 MEDIA = 28
@@ -86,6 +86,14 @@ class Info(unittest.TestCase):
                 self.assertEqual(Fraction(*duration_of(edits, 600, 48000, end, end)), seconds)
         self.assertEqual(Fraction(*duration_of([(0, 24000, 1)], 600, 48000, 48000, 72000)), 1)
         self.assertEqual(Fraction(*duration_of([], 600, 48000, 48000, 72000)), 1)
+
+    def test_ends_of_samples(self):
+        """Entries are a number of samples, and their duration or their composition offset."""
+        for durations, shifts, ends in (
+                ([], [], []), ([(4, 10)], [], [40]), ([(4, 10)], [(1, 10), (1, 30), (2, 0)], [20, 50, 40]),
+                ([(4, 10)], [(2, -10)], [10, 40]), ([(1, 10), (2, 20)], [(0, 99), (2, 5), (5, 7)], [15, 35, 57])):
+            with self.subTest(durations=durations, shifts=shifts):
+                self.assertEqual(list(shown_ends(durations, shifts)), ends)
 
     def test_frame_rates(self):
         for durations, rate in (

@@ -1,3 +1,4 @@
 pub mod Starts
 pub mod Tracks
 pub mod Clauses
+pub mod TableEnds

@@ -10,6 +10,7 @@ pub mod Rounding
 pub mod Durations
 pub mod Composition
 pub mod Totals
+pub mod TableEnds
 pub mod RunTimes
 pub mod TrackPieces
 pub mod Rates

@@ -1,12 +1,13 @@
 -- The number of the samples of a track, their bytes and their durations: those of its tables, and those of its
 -- fragments. The largest number of 64 bits stands for all larger ones.
-use Rattle.std.specs.Prelude.{ℕ, ◌+◌, ◌-◌, ◌*◌, ◌^◌, ◌==◌, ◌&&◌, bit_and, nat_le, nat_lt, Bool, List, [], ◌∷◌, ◌++◌}
-use Rattle.std.specs.Prelude.{count_by, flat_map, length, map, min, sum, sum_by, unwrap_or, Result, Ok, Err, None, Some}
+use Rattle.std.specs.Prelude.{ℕ, ◌+◌, ◌-◌, ◌*◌, ◌^◌, ◌==◌, ◌&&◌, bit_and, nat_le, nat_lt, Bool, List, [], ◌∷◌}
+use Rattle.std.specs.Prelude.{count_by, flat_map, length, min, sum, sum_by, unwrap_or, Result, Ok, Err, None, Some}
 use Rattle.std.specs.Prelude.{if◌then◌else◌}
 use Rattle.std.specs.Borrow.{Bor}
+use Rattle.std.specs.Int.{w32, cast_unsigned}
 use Rattle.std.specs.declared.option.Option.{Option}
 use Rattle.mp4_flat.specs.declared.tfdt.TfdtBox.{TfdtBox}
-use Rattle.mp4_info.specs.Composition.{largest, later, run_end}
+use Rattle.mp4_info.specs.Composition.{largest, later, raised, run_end}
 use Rattle.mp4_info.specs.Digits.{bit}
 use Rattle.mp4_info.specs.declared.totals.Piece.{Piece}
 use Rattle.mp4_info.specs.declared.totals.Totals.{Totals}
@@ -14,6 +15,8 @@ use Rattle.mp4_movie.specs.declared.error.BoxError.{BoxError}
 use Rattle.mp4_movie.specs.declared.moof.MoofFragments.{MoofFragments}
 use Rattle.mp4_movie.specs.declared.sample_boxes.SampleBoxes.{SampleBoxes}
 use Rattle.mp4_movie.specs.declared.track_fragment.TrackFragment.{TrackFragment}
+use Rattle.mp4_tables.specs.declared.ctts.CttsBox.{CttsBox}
+use Rattle.mp4_tables.specs.declared.ctts_entry.CttsEntry.{CttsEntry}
 use Rattle.mp4_tables.specs.declared.stss.StssBox.{StssBox}
 use Rattle.mp4_tables.specs.declared.stsz.StszBox.{StszBox}
 use Rattle.mp4_tables.specs.declared.stts_entry.SttsEntry.{SttsEntry}
@@ -26,6 +29,33 @@ sample_count es = min (sum_by (λ (e : SttsEntry). e.sample_count) es) largest
 -- the sum of their durations
 abbrev pub sample_time : List SttsEntry → ℕ
 sample_time es = min (sum_by (λ (e : SttsEntry). e.sample_count * e.sample_delta) es) largest
+
+-- the time at which the first `count` samples of these entries end, which are all samples if there are fewer
+abbrev pub time_after : ℕ → List SttsEntry → ℕ
+time_after count [] = 0
+time_after count (e ∷ es) =
+    min count e.sample_count * e.sample_delta + time_after (count - e.sample_count) es
+
+abbrev pub end_after : ℕ → List SttsEntry → ℕ
+end_after count es = min (time_after count es) largest
+
+-- The largest composition time at which a sample ends, and `latest`. Each sample ends its duration after its decoding
+-- time, plus its composition offset (8.6.1.3). `cs` have the offsets of the samples after the first `count`. The
+-- samples of an entry of `cs` have one offset, so the last one ends last. The samples after these have the offset 0.
+abbrev pub offset_end : List SttsEntry → ℕ → ℕ → List CttsEntry → ℕ
+offset_end es count latest [] = later (sample_count es - count) latest (sample_time es) (2 ^ 31)
+offset_end es count latest (c ∷ cs) =
+    offset_end es (min (count + c.sample_count) largest)
+    (later (min (sample_count es - count) c.sample_count) latest
+    (end_after (min (count + c.sample_count) largest) es) (raised 1 (cast_unsigned w32 c.sample_offset))) cs
+
+-- the largest composition time at which a sample of tables ends: without a `ctts`, each offset is 0
+abbrev pub offsets_of : Option CttsBox → List CttsEntry
+offsets_of None = []
+offsets_of (Some v) = v.entries
+
+abbrev pub tables_end : List SttsEntry → Option CttsBox → ℕ
+tables_end es ctts = offset_end es 0 0 (offsets_of ctts)
 
 -- the sum of sizes or of durations
 abbrev pub listed_sum : List ℕ → ℕ
@@ -51,7 +81,7 @@ abbrev pub key_frames_of : Option StssBox → ℕ → ℕ
 key_frames_of None samples = samples
 key_frames_of (Some v) samples = listed_samples v.entries samples
 
--- the totals of tables. The samples end when their durations have passed, without composition offsets
+-- the totals of tables. The samples end when their durations have passed
 abbrev pub totals_of_tables : SampleBoxes → Totals
 totals_of_tables v = record {
   samples = v.stsz.sample_count;
@@ -59,7 +89,7 @@ totals_of_tables v = record {
   bytes = sample_bytes v.stsz;
   time = sample_time v.stts.entries;
   end = sample_time v.stts.entries;
-  latest = min (sample_time v.stts.entries + 2 ^ 31) largest;
+  latest = tables_end v.stts.entries v.ctts;
 }
 
 abbrev pub no_totals : Totals

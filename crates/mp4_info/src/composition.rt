@@ -9,7 +9,7 @@ use mp4_tables::TrunBox;
 pub const RAISED: u64 = 0x8000_0000;
 
 /// Returns the number in a run of this version for a composition offset, plus 2^31.
-fn raised(version: u8, offset: u32) -> u64
+pub fn raised(version: u8, offset: u32) -> u64
     ensures { result ≡ raised version offset }
 {
     let raised = u64::from(offset) + RAISED;

@@ -24,6 +24,7 @@ mod rotation;
 mod rounding;
 mod run_times;
 mod sound;
+mod table_ends;
 mod tags;
 mod text;
 mod totals;

@@ -9,6 +9,7 @@ ghost use Rattle.mp4_info.specs.Totals.{shown_end, with_piece, with_pieces, with
 
 use crate::composition::{RAISED, later, run_end};
 use crate::digits::bit;
+use crate::table_ends::tables_end;
 use mp4_flat::TfdtBox;
 use mp4_movie::{SampleBoxes, TrackFragment};
 use mp4_samples::SAMPLE_IS_NON_SYNC;
@@ -62,7 +63,7 @@ pub fn sample_count(entries: &[SttsEntry]) -> u64
 }
 
 /// Returns the duration of the samples that `entry` counts.
-fn entry_time(entry: SttsEntry) -> u64
+pub fn entry_time(entry: SttsEntry) -> u64
     ensures { result ≡ entry.sample_count * entry.sample_delta }
 {
     u64::from(entry.sample_count) * u64::from(entry.sample_delta)
@@ -144,7 +145,7 @@ fn totals_of_tables(tables: &SampleBoxes) -> Totals
         bytes: sample_bytes(&tables.stsz),
         time,
         end: time,
-        latest: time.saturating_add(RAISED),
+        latest: tables_end(&tables.stts.entries, &tables.ctts),
     }
 }
 
