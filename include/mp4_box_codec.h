@@ -538,6 +538,144 @@ struct mp4_walk {
     struct mp4_walk_level levels[33];
 };
 
+/* Faults and tracks of a file. Their texts are in an array of bytes, one after the other, as UTF-8 without zeros. */
+
+/* A part of such an array. */
+struct mp4_text_part {
+    size_t position; /* of its first byte in the array */
+    size_t length;   /* the number of its bytes */
+};
+
+/* The code of a fault. docs/CHECK.md explains each. The numbers never change. The last two are those of `mp4inspect
+   check --media`, which looks at samples; mp4_check_file doesn't. */
+enum {
+    MP4_FAULT_NOT_MP4 = 1,
+    MP4_FAULT_FILE_CUT = 2,
+    MP4_FAULT_BOX_CUT = 3,
+    MP4_FAULT_BOX_TOO_SMALL = 4,
+    MP4_FAULT_BOX_INVALID = 5,
+    MP4_FAULT_BOX_REPEATED = 6,
+    MP4_FAULT_BOX_MISSING = 7,
+    MP4_FAULT_SIZES_UNLISTED = 8,
+    MP4_FAULT_AVC_WITHOUT_SETS = 9,
+    MP4_FAULT_MOVIE_MISSING = 10,
+    MP4_FAULT_TRACK_ID_ZERO = 11,
+    MP4_FAULT_TRACK_ID_REPEATED = 12,
+    MP4_FAULT_TRACK_ID_UNKNOWN = 13,
+    MP4_FAULT_TABLES_DISAGREE = 14,
+    MP4_FAULT_CHUNK_OUTSIDE_MEDIA = 15,
+    MP4_FAULT_CHUNKS_OVERLAP = 16,
+    MP4_FAULT_MEDIA_DURATION = 17,
+    MP4_FAULT_TRACK_DURATION = 18,
+    MP4_FAULT_MOVIE_DURATION = 19,
+    MP4_FAULT_RUN_OUTSIDE_MEDIA = 20,
+    MP4_FAULT_DECODE_TIME_BACK = 21,
+    MP4_FAULT_INDEX_SIZES = 22,
+    MP4_FAULT_NAL_UNITS_MISFIT = 23,
+    MP4_FAULT_PCM_FRAMES_CUT = 24
+};
+
+/* The severity of a fault. */
+enum {
+    MP4_ERROR = 1,  /* a player fails, or leaves something out */
+    MP4_WARNING = 2 /* the standard is broken, and players cope */
+};
+
+/* A fault of a file. */
+struct mp4_fault {
+    uint64_t position;         /* of the box that has the fault; 0 if no box has it */
+    struct mp4_text_part path; /* of that box, such as moov/trak[1]/tkhd */
+    struct mp4_text_part text; /* what is wrong, for people; it may change */
+    uint32_t code;             /* MP4_FAULT_NOT_MP4 to MP4_FAULT_PCM_FRAMES_CUT */
+    uint32_t severity;         /* MP4_ERROR or MP4_WARNING */
+};
+
+/* The numbers of elements of two arrays: faults, and bytes of their texts. */
+struct mp4_fault_table {
+    size_t count;
+    size_t text_bytes;
+};
+
+/* The samples of a track, in its tables and its fragments. The largest number stands for all larger ones. */
+struct mp4_track_samples {
+    uint64_t sample_count;
+    uint64_t key_frames;
+    uint64_t bytes;    /* of all samples */
+    uint64_t end;      /* the time at which the last sample ends, in the timescale */
+    uint64_t bit_rate; /* bits of a second, on average; 0 in no time */
+    uint64_t frames;   /* `frames` / `frame_units` frames in a second; both are 0 without a rate */
+    uint64_t frame_units;
+    uint8_t is_constant; /* 1 if all distances between frames are equal, 0 if the rate is an average */
+};
+
+/* The pictures of a track. */
+struct mp4_track_picture {
+    uint16_t width; /* in pixels, as the sample entry has it */
+    uint16_t height;
+    uint32_t h_spacing; /* the shape of a pixel, width to height; zeros if it is not stated */
+    uint32_t v_spacing;
+    uint16_t rotation;    /* degrees clockwise: 0, 90, 180 or 270 */
+    uint8_t has_rotation; /* 1 if the matrix of the track is a turn by `rotation`; 0 if it does something else */
+};
+
+/* The sound of a track. */
+struct mp4_track_sound {
+    uint64_t sample_rate;  /* in whole hertz */
+    uint32_t channels;     /* of the full range */
+    uint32_t low_channels; /* of low frequencies: 5.1 is 5 and 1 */
+};
+
+/* The encryption of a track (ISO/IEC 23001-7). */
+struct mp4_track_protection {
+    uint32_t original; /* the code of the sample entry before it was encrypted; that of the entry if it is clear, or if
+                          this is not known */
+    uint32_t scheme;   /* a code: 'cenc' is 0x63656E63 */
+    uint8_t kid[16];   /* the default KID */
+    uint8_t is_encrypted;
+    uint8_t has_kid; /* 1 if `kid` is known */
+};
+
+/* A track of the first moov. A number or a code that is not known is 0, and a text is then empty. */
+struct mp4_track_info {
+    struct mp4_text_part kind;     /* video, audio, subtitles, ..: a word for the handler, if there is one */
+    struct mp4_text_part codec;    /* as web pages name it (RFC 6381), such as avc1.64001f */
+    struct mp4_text_part language; /* a tag such as de-CH, or three letters such as deu; any bytes in a bad file */
+    struct mp4_track_samples samples;
+    uint64_t duration;       /* in ticks, by the edits: `duration` / `duration_scale` seconds */
+    uint64_t duration_scale; /* ticks of a second; 0 if the duration is not known */
+    struct mp4_track_sound sound;
+    struct mp4_track_picture picture;
+    uint32_t track_id;
+    uint32_t handler;   /* a code: 'vide' is 0x76696465, 'soun' 0x736F756E */
+    uint32_t timescale; /* of the media */
+    uint32_t entry;     /* the code of the first sample entry */
+    struct mp4_track_protection protection;
+    uint8_t has_samples; /* 1 if the tables could be read */
+    uint8_t has_picture; /* 1 if there is a sample entry, and the media have pictures */
+    uint8_t has_sound;   /* 1 if there is a sample entry, and the media are sound */
+};
+
+/* The place of the first moov. */
+enum {
+    MP4_ORDER_UNKNOWN = 0, /* there is no moov or no mdat */
+    MP4_MOOV_FIRST = 1,    /* it is before the first mdat */
+    MP4_MOOV_LAST = 2      /* it is after the first mdat */
+};
+
+/* What a file is. The counts are those of three arrays: its brands, of which the major brand is the first, its tracks,
+   and the bytes of their texts. */
+struct mp4_file_info {
+    size_t brand_count;
+    size_t track_count;
+    size_t text_bytes;
+    uint64_t length;       /* of the file, in bytes */
+    uint64_t milliseconds; /* the duration of the longest track */
+    uint8_t is_fragmented; /* 1 if the movie may have fragments, or the file has some */
+    uint8_t has_movie;     /* 1 if there is a moov with an mvhd; it is progressive unless the file is fragmented */
+    uint8_t has_items;     /* 1 if the file has pictures or other items, as HEIF */
+    uint8_t order;         /* MP4_ORDER_UNKNOWN, MP4_MOOV_FIRST or MP4_MOOV_LAST */
+};
+
 /*
  * Files and streams: whole files, and boxes of any type. A fault is MP4_END_OF_INPUT, MP4_INVALID_DATA,
  * MP4_BOX_NOT_FOUND or MP4_OUT_OF_MEMORY.
@@ -639,6 +777,33 @@ uint32_t mp4_samples(const uint8_t *bytes, size_t length, uint32_t track_id, str
    Leaves: the samples in `samples` and their number in `count`. */
 uint32_t mp4_fragment_samples(const uint8_t *bytes, size_t length, uint32_t track_id, struct mp4_sample *samples,
                               size_t places, size_t *count);
+
+/* Lists the faults of a file that `mp4inspect check` finds, in its order: those of single boxes, of the tracks and of
+   the movie, of the fragments and of the indexes, and that of a file without a movie.
+   Needs: the bytes of a file, `places` places at `faults`, and `text_places` places at `text`.
+   Returns: MP4_OK, also for a file without faults; MP4_NO_ROOM if one of the two arrays is too short;
+   MP4_OUT_OF_MEMORY.
+   Leaves: the faults in `faults`, their texts in `text`, and the numbers of both in `table`. */
+uint32_t mp4_check_file(const uint8_t *bytes, size_t length, struct mp4_fault *faults, size_t places, uint8_t *text,
+                        size_t text_places, struct mp4_fault_table *table);
+
+/* Writes the word of the code of a fault, such as box-cut for MP4_FAULT_BOX_CUT.
+   Needs: `places` places at `text`.
+   Returns: MP4_OK or MP4_NO_ROOM.
+   Leaves: the word in `text`, as ASCII characters without a zero after them, and their number in `count`: 0 if the
+   number is no code. */
+uint32_t mp4_fault_name(uint32_t code, uint8_t *text, size_t places, size_t *count);
+
+/* Reports what `mp4inspect info` knows of a file and of its tracks. A box with a fault counts as missing, so call
+   mp4_check_file for the reason if something is not known.
+   Needs: the bytes of a file, `brand_places` places at `brands`, `track_places` places at `tracks`, and `text_places`
+   places at `text`.
+   Returns: MP4_OK; MP4_NO_ROOM if one of the three arrays is too short; MP4_OUT_OF_MEMORY.
+   Leaves: the brands in `brands`, the tracks of the first moov in `tracks`, their texts in `text`, and the other facts
+   with the numbers of elements in `file`. */
+uint32_t mp4_info(const uint8_t *bytes, size_t length, uint32_t *brands, size_t brand_places,
+                  struct mp4_track_info *tracks, size_t track_places, uint8_t *text, size_t text_places,
+                  struct mp4_file_info *file);
 
 /* Reports the version of the library.
    Needs: nothing.
@@ -1167,6 +1332,20 @@ MP4_INLINE uint32_t mp4_call_fragment_samples(const uint8_t *bytes, size_t lengt
     return mp4_fragment_samples(MP4_BYTES(bytes), length, track_id, (struct mp4_sample *)mp4_to(samples), places,
                                 count);
 }
+MP4_INLINE uint32_t mp4_call_check_file(const uint8_t *bytes, size_t length, struct mp4_fault *faults, size_t places,
+                                        uint8_t *text, size_t text_places, struct mp4_fault_table *table) {
+    return mp4_check_file(MP4_BYTES(bytes), length, (struct mp4_fault *)mp4_to(faults), places, (uint8_t *)mp4_to(text),
+                          text_places, table);
+}
+MP4_INLINE uint32_t mp4_call_fault_name(uint32_t code, uint8_t *text, size_t places, size_t *count) {
+    return mp4_fault_name(code, (uint8_t *)mp4_to(text), places, count);
+}
+MP4_INLINE uint32_t mp4_call_info(const uint8_t *bytes, size_t length, uint32_t *brands, size_t brand_places,
+                                  struct mp4_track_info *tracks, size_t track_places, uint8_t *text, size_t text_places,
+                                  struct mp4_file_info *file) {
+    return mp4_info(MP4_BYTES(bytes), length, (uint32_t *)mp4_to(brands), brand_places,
+                    (struct mp4_track_info *)mp4_to(tracks), track_places, (uint8_t *)mp4_to(text), text_places, file);
+}
 MP4_INLINE uint32_t mp4_call_status_text(uint32_t status, uint8_t *text, size_t places, size_t *count) {
     return mp4_status_text(status, (uint8_t *)mp4_to(text), places, count);
 }
@@ -1274,6 +1453,9 @@ MP4_INLINE uint32_t mp4_call_write_stsd(const struct mp4_stsd_box *box, const si
 #define mp4_find mp4_call_find
 #define mp4_samples mp4_call_samples
 #define mp4_fragment_samples mp4_call_fragment_samples
+#define mp4_check_file mp4_call_check_file
+#define mp4_fault_name mp4_call_fault_name
+#define mp4_info mp4_call_info
 #define mp4_status_text mp4_call_status_text
 #define mp4_list mp4_call_list
 #define mp4_normal mp4_call_normal

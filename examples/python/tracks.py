@@ -8,8 +8,7 @@ for name in sys.argv[1:]:
     with File(name) as movie:
         for track in movie.tracks:
             shape = {"video": f"{track.width}x{track.height}, turned by {track.rotation} degrees",
-                     "audio": f"{track.channels} channel(s) of {track.sample_rate:g} Hz"}.get(track.kind, "")
-            samples = track.samples
+                     "audio": f"{track.channels} channel(s) of {track.sample_rate} Hz"}.get(track.kind, "")
             print(f"{name}: track {track.id}: {track.kind}, {track.codec}, {track.language}, {track.seconds:g} s, "
-                  f"{len(samples)} samples, {len(samples.key_frames)} of them key frames",
+                  f"{track.sample_count} samples, {track.key_frame_count} of them key frames",
                   "encrypted" if track.is_encrypted else "clear", shape, sep=", ")

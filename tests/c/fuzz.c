@@ -305,10 +305,10 @@ static int is_stated(const struct mp4_place *place, const uint8_t *bytes, size_t
 static void look_at_path(const uint8_t *path, size_t path_length, const uint8_t *bytes, size_t length) {
     struct mp4_place place = {0, 0, 0, 0, 0};
     uint32_t status = mp4_find(bytes, length, path, path_length, &place);
-    if (status == MP4_OK ? !is_stated(&place, bytes, length) ||
-                               place.is_whole > (place.length >= place.header_length &&
-                                                 place.length <= length - place.position)
-                         : status != MP4_BOX_NOT_FOUND && status != MP4_INVALID_DATA)
+    if (status == MP4_OK
+            ? !is_stated(&place, bytes, length) ||
+                  place.is_whole > (place.length >= place.header_length && place.length <= length - place.position)
+            : status != MP4_BOX_NOT_FOUND && status != MP4_INVALID_DATA)
         fail("mp4_find", "a box at another place, or a status that can't be", bytes, length);
 }
 
@@ -367,6 +367,97 @@ static void look_at_sets(const uint8_t *bytes, size_t length) {
     free(sets);
 }
 
+/* Returns the end of a part of a text, which has to begin at `at`. */
+static size_t end_of(const struct mp4_text_part *part, size_t at, const char *function, const uint8_t *bytes,
+                     size_t length) {
+    if (part->position != at)
+        fail(function, "a text at another place", bytes, length);
+    return at + part->length;
+}
+
+/* Checks the faults of a file: both arrays are filled or none, and their texts come one after the other. */
+static void look_at_faults(const uint8_t *bytes, size_t length) {
+    struct mp4_fault_table table, again;
+    struct mp4_fault *faults;
+    uint8_t *rows, *text, name[64];
+    size_t size, at = 0, i, count = 0;
+    uint32_t status = mp4_check_file(bytes, length, NULL, 0, NULL, 0, &table);
+    if (status != (table.count == 0 ? MP4_OK : MP4_NO_ROOM))
+        fail("mp4_check_file", "a status that can't be", bytes, length);
+    size = table.count * sizeof *faults;
+    rows = block(size + sizeof *faults);
+    text = block(table.text_bytes + 1);
+    faults = (struct mp4_fault *)(void *)rows;
+    if (table.count > 0 &&
+        (mp4_check_file(bytes, length, faults, table.count - 1, text, table.text_bytes, &again) != MP4_NO_ROOM ||
+         mp4_check_file(bytes, length, faults, table.count, text, table.text_bytes - 1, &again) != MP4_NO_ROOM ||
+         !as_they_were(rows, size) || !as_they_were(text, table.text_bytes)))
+        fail("mp4_check_file", "an array that is too short by one", bytes, length);
+    status = mp4_check_file(bytes, length, faults, table.count + 1, text, table.text_bytes + 1, &again);
+    if (status != MP4_OK || again.count != table.count || again.text_bytes != table.text_bytes)
+        fail("mp4_check_file", "arrays that fit", bytes, length);
+    if (!as_they_were(rows + size, sizeof *faults) || !as_they_were(text + table.text_bytes, 1))
+        fail("mp4_check_file", "a place after the elements is written", bytes, length);
+    for (i = 0; i < table.count; i++) {
+        at = end_of(&faults[i].path, at, "mp4_check_file", bytes, length);
+        at = end_of(&faults[i].text, at, "mp4_check_file", bytes, length);
+        if (faults[i].position > length || faults[i].text.length == 0 || faults[i].severity < MP4_ERROR ||
+            faults[i].severity > MP4_WARNING)
+            fail("mp4_check_file", "a fault that can't be", bytes, length);
+        if (mp4_fault_name(faults[i].code, name, sizeof name, &count) != MP4_OK || count == 0)
+            fail("mp4_fault_name", "a code without a word", bytes, length);
+    }
+    if (at != table.text_bytes)
+        fail("mp4_check_file", "texts that end elsewhere", bytes, length);
+    free(rows);
+    free(text);
+}
+
+/* Checks what is known of a file: the three arrays are filled or none, and the texts come one after the other. */
+static void look_at_info(const uint8_t *bytes, size_t length) {
+    struct mp4_file_info file, again;
+    struct mp4_track_info *tracks;
+    uint8_t *brands, *rows, *text;
+    size_t size, at = 0, i;
+    uint32_t status = mp4_info(bytes, length, NULL, 0, NULL, 0, NULL, 0, &file);
+    if (status != (file.brand_count + file.track_count == 0 ? MP4_OK : MP4_NO_ROOM) || file.length != length)
+        fail("mp4_info", "a status that can't be", bytes, length);
+    size = file.track_count * sizeof *tracks;
+    brands = block((file.brand_count + 1) * 4);
+    rows = block(size + sizeof *tracks);
+    text = block(file.text_bytes + 1);
+    tracks = (struct mp4_track_info *)(void *)rows;
+    if ((file.brand_count > 0 && mp4_info(bytes, length, (uint32_t *)(void *)brands, file.brand_count - 1, tracks,
+                                          file.track_count, text, file.text_bytes, &again) != MP4_NO_ROOM) ||
+        (file.track_count > 0 && mp4_info(bytes, length, (uint32_t *)(void *)brands, file.brand_count, tracks,
+                                          file.track_count - 1, text, file.text_bytes, &again) != MP4_NO_ROOM) ||
+        (file.text_bytes > 0 && mp4_info(bytes, length, (uint32_t *)(void *)brands, file.brand_count, tracks,
+                                         file.track_count, text, file.text_bytes - 1, &again) != MP4_NO_ROOM) ||
+        !as_they_were(brands, file.brand_count * 4) || !as_they_were(rows, size) ||
+        !as_they_were(text, file.text_bytes))
+        fail("mp4_info", "an array that is too short by one", bytes, length);
+    status = mp4_info(bytes, length, (uint32_t *)(void *)brands, file.brand_count + 1, tracks, file.track_count + 1,
+                      text, file.text_bytes + 1, &again);
+    if (status != MP4_OK || again.brand_count != file.brand_count || again.track_count != file.track_count ||
+        again.text_bytes != file.text_bytes)
+        fail("mp4_info", "arrays that fit", bytes, length);
+    if (!as_they_were(brands + file.brand_count * 4, 4) || !as_they_were(rows + size, sizeof *tracks) ||
+        !as_they_were(text + file.text_bytes, 1))
+        fail("mp4_info", "a place after the elements is written", bytes, length);
+    for (i = 0; i < file.track_count; i++) {
+        at = end_of(&tracks[i].kind, at, "mp4_info", bytes, length);
+        at = end_of(&tracks[i].codec, at, "mp4_info", bytes, length);
+        at = end_of(&tracks[i].language, at, "mp4_info", bytes, length);
+        if (tracks[i].picture.rotation % 90 != 0 || tracks[i].has_picture > 1 || tracks[i].has_samples > 1)
+            fail("mp4_info", "a track that can't be", bytes, length);
+    }
+    if (at != file.text_bytes)
+        fail("mp4_info", "texts that end elsewhere", bytes, length);
+    free(brands);
+    free(rows);
+    free(text);
+}
+
 static void look_at(const uint8_t *bytes, size_t length, FILE *out) {
     size_t i, count;
     uint32_t checked = mp4_check(bytes, length), status;
@@ -403,6 +494,8 @@ static void look_at(const uint8_t *bytes, size_t length, FILE *out) {
     for (i = 0; i < BOX_COUNT; i++)
         look_at_box(&BOXES[i], bytes, length);
     look_at_sets(bytes, length);
+    look_at_faults(bytes, length);
+    look_at_info(bytes, length);
 }
 
 int LLVMFuzzerTestOneInput(const uint8_t *bytes, size_t length) {

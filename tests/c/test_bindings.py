@@ -70,6 +70,7 @@ class Rust(Bindings):
             for name in ("bindings", "docs"):
                 shutil.copytree(os.path.join(TOP, name), os.path.join(self.folder, name))
         env = {**os.environ, "RUSTC": rustc, "RUSTDOC": re.sub("rustc$", "rustdoc", rustc),
+               "TEST_MOVIES": os.path.join(TOP, "tests", "files", "movies"),
                "MP4_BOX_CODEC_LIB_DIR": self.library, "CARGO_TARGET_DIR": os.path.join(self.folder, "target"), **more}
         words = [*before, cargo, command, "--offline", *words]
         return self.succeeds(*words, cwd=os.path.join(self.folder, RUST), env=env).decode()

@@ -19,8 +19,10 @@ STRICT = ["-std=c99", "-pedantic", "-Wall", "-Wextra", "-Werror"]
 SANITIZERS = ["-fsanitize=address,undefined", "-fno-sanitize-recover=all"]
 # The caller defines these itself: its functions count and refuse requests.
 WRAPPED = ["-Wl,--wrap=malloc,--wrap=realloc,--wrap=free"]
-CALLERS = ["caller", "samples", "boxes", "writing", "entries", "walk", "fields"]
-FUNCTIONS = 71
+CALLERS = ["caller", "samples", "boxes", "writing", "entries", "walk", "fields", "info"]
+# The arguments of callers.
+ARGUMENTS = {"info": [os.path.join(TOP, "tests", "files", "movies")]}
+FUNCTIONS = 74
 
 
 def has(*words):
@@ -53,7 +55,7 @@ class Calls:
 
     def call(self, name, *flags):
         """Runs a caller in C, which has to succeed, and prints its last line."""
-        said = self.succeeds(self.compiled(name, *flags)).decode()
+        said = self.succeeds(self.compiled(name, *flags), *ARGUMENTS.get(name, [])).decode()
         print(f"c: {type(self).__name__}: {said.splitlines()[-1]}")
 
     def call_under_sanitizers(self, name):
@@ -161,6 +163,17 @@ class Library(Calls, unittest.TestCase):
         with open(os.path.join(self.folder, "file"), "rb") as file:
             said = self.succeeds(self.compiled("threads", "-pthread"), stdin=file).decode()
         self.assertEqual(said, "threads: 8 threads asked 50 times, and agree\n")
+
+    def test_faults_and_tracks(self):
+        program, movies = self.compiled("faults"), ARGUMENTS["info"][0]
+        said = self.succeeds(program, os.path.join(movies, "fragments.mp4"))
+        self.assertEqual(said, b"video, avc1.64000a, 20 samples\naudio, mp4a.40.2, 9 samples\n")
+        path = os.path.join(self.folder, "file")
+        with open(path, "wb") as file:
+            file.write(b"\0\0\0\x10moov\0\0\0\x09trac")
+        ran = subprocess.run([program, path], capture_output=True, check=False)
+        self.assertEqual((ran.returncode, ran.stdout),
+                         (1, b"0 moov: there is no mvhd\n8 moov/trac: unexpected end of input\n"))
 
     def test_tree(self):
         path = os.path.join(self.folder, "file")

@@ -149,20 +149,23 @@ class Examples(Programs):
 
     def test_tracks(self):
         plain = self.path("plain.mp4", stored("plain"))
-        self.assertEqual(self.runs("tracks", plain), "track 1: vide, und, 320 x 240, 5.000 s, avc1, 10 samples\n")
+        self.assertEqual(self.runs("tracks", plain),
+                         "track 1: video, avc1.64000d, und, 320 x 240, 5.000 s, 10 samples\n")
         made = self.path("made.mp4", in_fragments())
-        self.assertEqual(self.runs("tracks", made), "track 1: vide, eng, 0 x 0, 5.000 s, avc1, 6 samples\n")
+        self.assertEqual(self.runs("tracks", made),
+                         "track 1: video, avc1.64000d, eng, 320 x 240, 3.000 s, 6 samples\n")
 
     def test_tracks_of_a_damaged_file(self):
         damaged = stored("plain").replace(b"mdhd", b"mdhx")
-        self.refuses("mdhd: box not found", "tracks", self.path("damaged.mp4", damaged), error="BoxNotFound")
+        self.assertEqual(self.runs("tracks", self.path("damaged.mp4", damaged)),
+                         "track 1: video, avc1.64000d, , 320 x 240, 0.000 s, 10 samples\n")
 
     def test_edit(self):
         file, plain = stored("plain"), self.path("plain.mp4", stored("plain"))
         edited = self.writes("edit", plain, "1", "fra")
         at = file.find(b"mdhd") + 4 + 20
         self.assertEqual(edited, file[:at] + be(2, 6 << 10 | 18 << 5 | 1) + file[at + 2:])
-        self.assertEqual(self.runs("tracks", self.path("edited.mp4", edited))[:18], "track 1: vide, fra")
+        self.assertIn(", fra, ", self.runs("tracks", self.path("edited.mp4", edited)))
         self.refuses("track_ID", "edit", plain, "2", "fra", self.path("none"))
 
     def test_stream_that_is_muxed(self):
@@ -175,7 +178,8 @@ class Examples(Programs):
         self.assertIn(full(b"stsz", 0, 0, be(4, 0, 2, len(KEY) + len(MORE) + 8, len(NEXT) + 4)), muxed)
         self.assertIn(full(b"stco", 0, 0, be(4, 1, muxed.find(media))), muxed)
         path = self.path("muxed.mp4", muxed)
-        self.assertEqual(self.runs("tracks", path), "track 1: vide, und, 320 x 240, 0.080 s, avc1, 2 samples\n")
+        self.assertEqual(self.runs("tracks", path),
+                         "track 1: video, avc1.64000d, und, 320 x 240, 0.080 s, 2 samples\n")
         units = self.writes("elementary", path, "1")
         self.assertEqual(units, b"".join(START + unit for unit in (SPS, PPS, KEY, MORE, NEXT)))
         words = [self.path("short", START + KEY), "320", "240", "25", self.path("none")]

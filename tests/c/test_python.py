@@ -247,13 +247,58 @@ class Files(Python):
         self.assertEqual(error.status, m.UNKNOWN_BOX)
         self.refused("moov/trak/tkhd at 32: invalid data: this box is a 'tkhd', not a 'mdhd'",
                      lambda: file["moov/trak/tkhd"].read(m.Mdhd))
-        self.assertEqual(file.faults(), [m.Fault(32, "moov/trak/tkhd", "invalid data")])
         cut = m.File(bytes_of("video")[:1700])
-        self.assertEqual([(it.path, it.position) for it in cut.faults()][:1], [("moov", 950)])
         self.assertEqual(cut["moov"].fault, "it ends at 1857, and the file ends at 1700")
         error = self.refused("moov/trak at ", lambda: m.File(nested([b"moov"], box(b"trak"))).tracks[0].samples)
         self.assertEqual((error.status, error.position), (m.BOX_NOT_FOUND, 8))
         self.refused("the new box has 33 bytes, not 16", lambda: file.changed({file["ftyp"]: bytes(33)}))
+
+    def test_faults(self):
+        """The faults of files, worked out from docs/CHECK.md."""
+        m = self.module
+        file = m.File(ftyp(b"isom") + nested([b"moov", b"trak"], full(b"tkhd", 2, 0, bytes(80)) + box(b"free")))
+        self.assertEqual(file.faults(), [
+            m.Fault(16, "moov", "box-missing", "error", "there is no mvhd"),
+            m.Fault(24, "moov/trak", "box-missing", "error", "there is no mdia"),
+            m.Fault(32, "moov/trak/tkhd", "box-invalid", "error", "version must be 0 or 1")])
+        two = nested([b"moof"], 2 * full(b"mfhd", 0, 0, be(4, 1)))
+        self.assertEqual(m.File(two).faults(), [
+            m.Fault(24, "moof/mfhd[1]", "box-repeated", "warning",
+                    "a moof may have only one mfhd, and there is one before this at 8")])
+        self.assertEqual([it.code for it in m.File(b"").faults()], ["movie-missing"])
+        self.assertEqual(m.File(bytes_of("video")).faults(), [])
+        cut = m.File(bytes_of("video")[:1700]).faults()
+        self.assertEqual((cut[0].path, cut[0].position, cut[0].code), ("moov", 950, "file-cut"))
+        with self.assertRaises(dataclasses.FrozenInstanceError):
+            cut[0].code = ""
+        found = self.calls.check_file(two)
+        self.assertEqual(found, [self.calls.Fault(24, "moof/mfhd[1]", 6, self.calls.WARNING, found[0].text)])
+        self.assertEqual([self.calls.fault_name(it) for it in (0, 1, 22, 25)], ["", "not-mp4", "index-sizes", ""])
+        self.refused("code is -1, not ", self.calls.fault_name, -1)
+
+    def test_facts_of_files(self):
+        m = self.module
+        facts = [(it.brands, it.seconds, it.is_fragmented, it.is_progressive, it.moov_first) for it in (
+            m.File(bytes_of(name)) for name in ("video", "sound", "fragments"))]
+        self.assertEqual(facts, [
+            (["isom", "isom", "iso2", "avc1", "mp41"], 2.0, False, True, False),
+            (["isom", "isom", "iso2", "mp41"], 1.0, False, True, False),
+            (["iso5", "iso5", "iso6", "mp41"], 2.0, True, False, True)])
+        empty = m.File(b"")
+        self.assertEqual((empty.brands, empty.seconds, empty.is_progressive, empty.moov_first), ([], 0.0, False, None))
+        [track] = m.File(bytes_of("video")).tracks
+        self.assertEqual((track.bit_rate, track.frame_rate, track.sample_count, track.key_frame_count, track.format),
+                         (3608, 10, 20, 2, "avc1"))
+        self.assertEqual((track.scheme, track.kid, track.is_encrypted), ("", None, False))
+        kid = bytes(range(16))
+        sinf = box(b"sinf", box(b"frma", b"avc1") + full(b"schm", 0, 0, b"cenc" + be(4, 0x10000))
+                   + box(b"schi", full(b"tenc", 0, 0, bytes([0, 0, 1, 8]) + kid)))
+        from tests.files import made
+        entry = made.visual(b"encv", 8, 16, b"", sinf)
+        [track] = m.File(made.movie(made.track(3, b"vide", b"", b"fra", [entry], b""))).tracks
+        self.assertEqual((track.scheme, track.kid, track.format, track.codec, track.is_encrypted),
+                         ("cenc", kid, "avc1", "avc1", True))
+        self.assertEqual((track.rotation, track.frame_rate, track.bit_rate, track.seconds), (0, None, 0, 0.0))
 
     def test_tracks(self):
         with self.module.File(movie("fragments")) as file:
@@ -302,13 +347,15 @@ class Files(Python):
             found = (track.width, track.height, track.channels, track.sample_rate)
             self.assertEqual((track.codec, found, track.language), (codec_string, shape, "fra"), entry)
             self.assertEqual(track.is_encrypted, b"sinf" in entry)
-        for number in (0, 0x7FFF):
+        for number, language in ((0, "eng"), (0x7FFF, "und")):
             data = made.movie(made.track(3, b"soun", b"", number, [], b""))
-            self.assertEqual(self.module.File(data).tracks[0].language, "und")
+            self.assertEqual(self.module.File(data).tracks[0].language, language)
         self.assertEqual([it.tracks[0].rotation for it in map(self.module.File, (
-            made.movie(made.track(1, b"vide", b"", b"und", [], b"", header=made.tkhd(1, matrix=matrix)))
+            made.movie(made.track(1, b"vide", b"", b"und", [made.visual(b"avc1", 8, 16, b"", b"")], b"",
+                                  header=made.tkhd(1, matrix=matrix)))
             for matrix in ((0, 1 << 16, 0, -1 << 16, 0, 0, 0, 0, 1 << 30),
-                           (-1 << 16, 0, 0, 0, -1 << 16, 0, 0, 0, 1 << 30))))], [90, 180])
+                           (-1 << 16, 0, 0, 0, -1 << 16, 0, 0, 0, 1 << 30),
+                           (1 << 17, 0, 0, 0, 1 << 16, 0, 0, 0, 1 << 30))))], [90, 180, None])
 
     def test_codec_strings(self):
         """The string of a codec is that of `mp4inspect info`, over the rows of codec_strings.txt."""
@@ -342,7 +389,7 @@ class Files(Python):
             self.assertEqual(self.refused("", lambda: udta[code].fields).status, m.UNKNOWN_BOX)
             self.assertIsNone(m.class_of(code, "udta"))
         self.assertEqual((m.class_of("mp4a", "stsd"), m.class_of("mp4a", "wave")), (m.Mp4a, None))
-        self.assertEqual(file.faults(), [])
+        self.assertEqual({it.code for it in file.faults()}, {"box-missing", "movie-duration"})
 
     def test_entries_of_any_code(self):
         """A sample entry is written as it was read, and refuses numbers that it can't hold."""
@@ -502,7 +549,9 @@ class Writing(Python):
     def test_written_movie(self):
         m, out = self.module, io.BytesIO()
         with m.Writer(out) as writer:
-            video = writer.add_track(m.Avc1(width=64, height=48), 90000, width=64, height=48, begin=3000)
+            sets = m.AvcC(sequence_parameter_sets=[b"\x67\1\2\3"], picture_parameter_sets=[b"\x68"])
+            entry = m.Avc1(width=64, height=48, avcc=sets)
+            video = writer.add_track(entry, 90000, width=64, height=48, begin=3000)
             sound = writer.add_track(m.Mp4a(samplerate=48000.0, channelcount=2), 48000, handler="soun", language="eng")
             video.add(b"key frame", 3000, rendering_offset=3000)
             video.add(b"second", 3000, rendering_offset=6000, sync=False)
@@ -562,7 +611,7 @@ class Programs(Python):
         said = self.run_program("tracks", movie("video"), movie("sound"))
         self.assertEqual(said.replace(MOVIES + os.sep, ""), (
             "video.mp4: track 1: video, avc1.64000a, deu, 2 s, 20 samples, 2 of them key frames, clear, 32x32, "
-            "turned by 0 degrees\nsound.mp4: track 1: audio, mp4a.40.2, und, 1.128 s, 9 samples, 9 of them key frames, "
+            "turned by 0 degrees\nsound.mp4: track 1: audio, mp4a.40.2, und, 1 s, 9 samples, 9 of them key frames, "
             "clear, 1 channel(s) of 8000 Hz\n"))
 
     def test_stream(self):

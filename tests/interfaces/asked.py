@@ -436,21 +436,23 @@ def python(asked, answer):
 
 
 @functools.cache
-def caller(folder):
-    """Compiles caller.rs with the crate of bindings/rust into `folder`, and returns the program."""
+def callers(folder):
+    """Compiles caller.rs and facts.rs with the crate of bindings/rust into `folder`, and returns the programs."""
     shutil.copytree(os.path.join(TOP, "bindings", "rust"), os.path.join(folder, "rust"))
     os.makedirs(os.path.join(folder, "rust", "examples"))
-    shutil.copy(os.path.join(TOP, "tests", "interfaces", "caller.rs"), os.path.join(folder, "rust", "examples"))
+    for name in ("caller.rs", "facts.rs"):
+        shutil.copy(os.path.join(TOP, "tests", "interfaces", name), os.path.join(folder, "rust", "examples"))
     environment = {**os.environ, "MP4_BOX_CODEC_LIB_DIR": library(), "CARGO_TARGET_DIR": os.path.join(folder, "target")}
-    words = ["cargo", "build", "--offline", "--quiet", "--example", "caller"]
+    words = ["cargo", "build", "--offline", "--quiet", "--examples"]
     subprocess.run(words, cwd=os.path.join(folder, "rust"), env=environment, check=True)
-    return os.path.join(folder, "target", "debug", "examples", "caller")
+    return [os.path.join(folder, "target", "debug", "examples", name) for name in ("caller", "facts")]
 
 
 def rust(asked, answer):
     """The crate for Rust calls the library for C. Its tree has the same boxes as that of Python."""
     ids = [str(it) for it in answer.ids()]
-    done = subprocess.run([caller(os.path.dirname(asked.path)), asked.path, *ids], capture_output=True, check=True)
+    program = callers(os.path.dirname(asked.path))[0]
+    done = subprocess.run([program, asked.path, *ids], capture_output=True, check=True)
     boxes, *lines = done.stdout.decode().splitlines()
     found = {}
     for line in lines:

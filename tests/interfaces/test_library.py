@@ -1,10 +1,11 @@
 """Calls the library for C, from Python: the texts of its statuses, where the boxes inside a box begin, and the boxes at
 paths. What is expected is by include/mp4_box_codec.h and tests/containers.txt."""
 
+import re
 import unittest
 
-from tests.built import codec
-from tests.files.made import box, nested
+from tests.built import codec, source
+from tests.files.made import be, box, full, movie, nested, tkhd, track, visual
 from tests.interfaces.answers import Sample, Samples
 from tests.interfaces.movies import cases
 from tests.readers.test_containers import lines
@@ -16,6 +17,10 @@ TEXTS = {
     112: "stsc begins no later", 113: "2^32 chunks", 114: "the chunks hold", 115: "stts has a duration",
     116: "stss", 117: "too far out",
 }
+
+
+def number_of(code):
+    return int.from_bytes(code, "big")
 
 
 def value_of(track, name):
@@ -54,6 +59,36 @@ class Library(unittest.TestCase):
                         Sample(it.offset, it.size, it.decode_time, it.duration, it.rendering_offset, it.sync,
                                it.description) for it in listed], [*wanted.tables.listed, *fragments.listed], name)
         self.assertGreater(compared, 30)
+
+    def test_codes_of_faults(self):
+        """The numbers and the words of codes, by include/mp4_box_codec.h."""
+        calls, words = codec().calls, {}
+        for word, number in re.findall(r"MP4_FAULT_([A-Z0-9_]+) = (\d+)", source("include", "mp4_box_codec.h")):
+            words[int(number)] = word.lower().replace("_", "-")
+        self.assertEqual({it: calls.fault_name(it) for it in range(1, len(words) + 1)}, words)
+        # The file lost its end: the number of its first fault is that of file-cut.
+        self.assertEqual(calls.check_file(box(b"free") + be(4, 9) + b"free")[0].code, 2)
+
+    def test_facts_of_a_movie(self):
+        """Encrypted video of 8 by 16 pixels, turned by 90 degrees, whose chunk has two samples of 5 and 7 bytes."""
+        key = bytes(range(16))
+        sinf = box(b"sinf", box(b"frma", b"avc1") + full(b"schm", 0, 0, b"cenc" + be(4, 0x10000))
+                   + box(b"schi", full(b"tenc", 0, 0, bytes([0, 0, 1, 8]) + key)))
+        tables = (full(b"stts", 0, 0, be(4, 1, 2, 1000)) + full(b"stsc", 0, 0, be(4, 1, 1, 2, 1))
+                  + full(b"stsz", 0, 0, be(4, 0, 2, 5, 7)) + full(b"stco", 0, 0, be(4, 1, 0))
+                  + full(b"stss", 0, 0, be(4, 1, 1)))
+        header = tkhd(4, matrix=(0, 1 << 16, 0, -1 << 16, 0, 0, 0, 0, 1 << 30))
+        entry = visual(b"encv", 8, 16, b"", sinf)
+        file = movie(track(4, b"vide", b"", b"fra", [entry], tables, header=header)) + box(b"mdat")
+        info = codec().calls.info(file)
+        [found] = info.tracks
+        self.assertEqual((info.order, info.is_fragmented, info.has_items, list(info.brands)), (1, False, False, []))
+        self.assertEqual((found.track_id, found.kind, found.codec, found.language), (4, "video", "avc1", "fra"))
+        self.assertEqual(found.samples[:4], (2, 1, 12, 2000))
+        self.assertEqual(found.picture, (8, 16, 0, 0, 90, True))
+        self.assertEqual(found.protection, (number_of(b"avc1"), number_of(b"cenc"), key, True, True))
+        self.assertEqual((found.entry, found.handler), (number_of(b"encv"), number_of(b"vide")))
+        self.assertEqual((found.has_samples, found.has_picture, found.has_sound), (True, True, False))
 
     def first_box_in(self, line):
         """Checks that the walk says where the first box inside begins, after the fields before it."""

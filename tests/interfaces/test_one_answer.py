@@ -1,6 +1,7 @@
 """Asks each interface about the tracks and samples of the same files, and wants one answer: the tree of mp4inspect as
 text and as JSON, `mp4inspect check`, `mp4inspect samples`, a caller in Rattle (`crates/test_probe/src/movie.rt`), and
-the library for C as Python and Rust call it. asked.py says what each of them has to say.
+the library for C as Python and Rust call it. asked.py says what each of them has to say. What `mp4inspect check` and
+`mp4inspect info` say of a file is compared with the answers of C, Rust and Python (facts.py).
 
 - The files of movies.py have answers that were worked out by hand. Each file is a test of each interface.
 - The answers for stored files, for those of made.py and faulty.py, and for files with damage are computed by
@@ -26,7 +27,8 @@ from tests.built import built, codec, number
 from tests.files import faulty
 from tests.files.inspected import damaged, files
 from tests.interfaces.answers import answer
-from tests.interfaces.asked import INTERFACES, Asked, caller
+from tests.interfaces import facts
+from tests.interfaces.asked import INTERFACES, Asked, callers
 from tests.interfaces.movies import cases
 from tests.readers.inspect import every, located, tree, value_of
 
@@ -62,8 +64,10 @@ class Answers(unittest.TestCase):
         if interface == "rust" and not shutil.which("cargo"):
             self.skipTest("cargo is not on this machine")
         if interface == "rust":
-            caller(folder())
-        if interface in ("python", "rust"):
+            callers(folder())
+        if interface == "c":
+            facts.in_c(folder())
+        if interface in ("c", "python", "rust"):
             codec()
 
     def differences(self, interface, data, wanted):
@@ -123,6 +127,35 @@ class SameAnswers(Answers):
         self.compare_all(interface, ((f"{index:05}", data, True) for index, data in enumerate(made)))
 
 
+class Facts(Answers):
+    """What `mp4inspect check` and `mp4inspect info` say of a file: C, Rust and Python say the same."""
+
+    def facts_differ(self, language, data):
+        """Returns the differences of what a language says of the file `data` from what mp4inspect says."""
+        try:
+            return list(facts.differences(language, asked(data), lambda: callers(folder())[1]))
+        except (AssertionError, ValueError, subprocess.CalledProcessError) as why:
+            return [str(why)]
+
+    def of(self, language, made):
+        self.prepare(language)
+        with concurrent.futures.ThreadPoolExecutor(os.cpu_count()) as workers:
+            found = [*workers.map(lambda one: (one, self.facts_differ(language, one[1])), made)]
+        said = [line for (name, data), texts in found if texts for line in (name, *texts[:PRINTED[0]], data.hex())]
+        self.assertEqual(said[:30], [])
+
+    def of_files(self, language):
+        self.of(language, [*files().items(), *((name, data) for name, data, *_ in cases())])
+
+    def of_files_with_one_fault(self, language):
+        self.of(language, [(name, data) for name, data, _ in faulty.cases()])
+
+    def of_files_with_damage(self, language):
+        random_, sound = random.Random(number("SEED", 1)), [*files().values()]
+        self.of(language, [(f"{index:05}", damaged(random_, random_.choice(sound)))
+                           for index in range(number("COUNT", 300))])
+
+
 class Boxes(unittest.TestCase):
     """Sample entries that hold boxes: each tree shows these."""
 
@@ -159,6 +192,10 @@ for interface_ in INTERFACES:
     for kind_ in ("of_files", "of_files_with_one_fault", "of_files_with_damage"):
         setattr(SameAnswers, name_of(kind_, "by", interface_), lambda self, interface=interface_, kind=kind_:
                 getattr(self, kind)(interface))
+for language_ in facts.LANGUAGES:
+    for kind_ in ("of_files", "of_files_with_one_fault", "of_files_with_damage"):
+        setattr(Facts, name_of(kind_, "by", language_), lambda self, language=language_, kind=kind_:
+                getattr(self, kind)(language))
 for name_, data_, _, boxes_ in cases():
     for tree_ in ("tree_as_json", "python") if boxes_ else ():
         setattr(Boxes, name_of(name_, "by", tree_), lambda self, tree=tree_, all_=(data_, boxes_):

@@ -141,7 +141,9 @@ def compare_library():
             {f"{name}({given})" for name, given in declared})
     if len(shown) != len(declared):
         wrong.append(f"the pages have {len(shown)} functions, and the header {len(declared)}")
-    numbers = {f"{name} ({number})" for name, number in re.findall(r"^    (MP4_\w+) = (\d+),?$", header, re.M)}
+    # The statuses are the first enum of the header.
+    first = header.partition("enum {")[2].partition("};")[0]
+    numbers = {f"{name} ({number})" for name, number in re.findall(r"^    (MP4_\w+) = (\d+),?$", first, re.M)}
     compare(page.name, "status", set(page.tagged("RETURN VALUE")), numbers)
     compare(page.name, "page", set(page.tagged("DESCRIPTION")), {f"{name}(3)" for name in manuals.PAGES})
     lines = r".*\n(?:   .*\n)*?"

@@ -1,8 +1,10 @@
 """Files as trees of boxes."""
 
+import functools
 import mmap
 import os
-from typing import Any, BinaryIO, Dict, Iterator, List, NamedTuple, NoReturn, Optional, Type, TypeVar, Union
+from dataclasses import dataclass
+from typing import Any, BinaryIO, Dict, Iterator, List, NoReturn, Optional, Type, TypeVar, Union
 
 from . import _fields, calls
 from ._entries import SoundEntry, VisualEntry
@@ -16,10 +18,14 @@ _ENTRIES = {"vide": VisualEntry, "pict": VisualEntry, "auxv": VisualEntry, "soun
 Source = Union[str, "os.PathLike[str]", BinaryIO, bytes, bytearray, memoryview, mmap.mmap]
 
 
-class Fault(NamedTuple):
-    """A fault of a box: its position in the file, its path, and what is wrong."""
+@dataclass(frozen=True)
+class Fault:
+    """A fault of a file: the position and the path of the box that has it, its code such as `box-cut`, which never
+    changes, its severity `error` or `warning`, and what is wrong. docs/CHECK.md explains the codes."""
     position: int
     path: str
+    code: str
+    severity: str
     text: str
 
 
@@ -231,24 +237,46 @@ class File:
     def tracks(self) -> List[Track]:
         """The tracks of the first `moov`, in order. A file without one has none."""
         if self._tracks is None:
-            movie = self.movie
-            self._tracks = [Track(it) for it in movie.children if it.code == "trak"] if movie else []
+            traks = [it for it in self.movie.children if it.code == "trak"] if self.movie else []
+            self._tracks = [Track(it, number) for number, it in enumerate(traks)]
         return self._tracks
 
+    @functools.cached_property
+    def _info(self) -> calls.FileInfo:
+        """The file, as the library knows it."""
+        return calls.info(self.data)
+
+    @property
+    def brands(self) -> List[str]:
+        """The brands of the file: the major brand, then the compatible brands."""
+        return [_fields.code_of(it) for it in self._info.brands]
+
+    @property
+    def seconds(self) -> float:
+        """The duration of the longest track, rounded to thousandths of a second."""
+        return self._info.milliseconds / 1000
+
+    @property
+    def is_fragmented(self) -> bool:
+        """Whether the movie may have fragments, or the file has some."""
+        return self._info.is_fragmented
+
+    @property
+    def is_progressive(self) -> bool:
+        """Whether the file has a movie without fragments."""
+        return self._info.has_movie and not self._info.is_fragmented
+
+    @property
+    def moov_first(self) -> Optional[bool]:
+        """Whether the first `moov` is before the media data. It is None without one of them."""
+        return {calls.MOOV_FIRST: True, calls.MOOV_LAST: False}.get(self._info.order)
+
     def faults(self) -> List[Fault]:
-        """Returns the faults of single boxes, in order: cut boxes, sizes that are too small, and boxes of the types
-        with a class that can't be read. `mp4inspect check` also compares boxes with each other."""
-        found = []
-        for box in self.walk():
-            if box.fault:
-                found.append(Fault(box.position, box.path, box.fault))
-            # The entry in an `stsd` is another box.
-            elif box._class() and box.code != "stsd":
-                try:
-                    calls.fields(box.data)
-                except Mp4Error as why:
-                    found.append(Fault(box.position, box.path, str(why)))
-        return found
+        """Returns the faults that `mp4inspect check` finds, in its order: those of single boxes, of tracks, of
+        fragments and of indexes."""
+        severities = {calls.ERROR: "error", calls.WARNING: "warning"}
+        return [Fault(it.position, it.path, calls.fault_name(it.code), severities[it.severity], it.text)
+                for it in calls.check_file(self.data)]
 
     def changed(self, changes: Dict[Box, Union[_fields.Fields, bytes]]) -> bytearray:
         """Returns the bytes of the file with some boxes replaced. A box has to keep its length, so that no size and no

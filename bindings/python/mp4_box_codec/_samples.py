@@ -103,12 +103,6 @@ def _counted(function: Any, data: Any, track_id: int) -> int:
     return int(count.value)
 
 
-def count_of(data: Any, track_id: int) -> int:
-    """Returns the number of samples that `samples_of` lists, without memory for them."""
-    number = calls._number(track_id, calls._ALL[calls.u32], "track_id")
-    return sum(_counted(function, data, number) for function in _CALLS)
-
-
 _CALLS = [calls._function(f"mp4_{it}", ctypes.c_void_p, calls.size, calls.u32, ctypes.c_void_p, calls.size,
                           ctypes.c_void_p) for it in ("samples", "fragment_samples")]
 

@@ -39,6 +39,9 @@ from ._library import load
 
 OK, END_OF_INPUT, INVALID_DATA, BOX_NOT_FOUND, OUT_OF_MEMORY, NO_ROOM = 0, 1, 2, 3, 12, 100
 NO_TRACK, UNKNOWN_BOX = 101, 102
+# The severities of a Fault, and the values of `order` of a FileInfo: where the first moov is.
+ERROR, WARNING = 1, 2
+ORDER_UNKNOWN, MOOV_FIRST, MOOV_LAST = range(3)
 # The values of `what` of a Box: the state of a box, or of the place where one should begin.
 LEAF, PARENT, TOO_DEEP, CUT, SMALL, NO_HEADER = range(6)
 
@@ -248,6 +251,91 @@ class Sample(NamedTuple):
         return self.decode_time + self.rendering_offset
 
 
+class Fault(NamedTuple):
+    """A fault of a file: the position and the path of the box that has it, the number of its code, its severity ERROR
+    or WARNING, and what is wrong."""
+    position: int
+    path: str
+    code: int
+    severity: int
+    text: str
+
+
+class TrackSamples(NamedTuple):
+    """The samples of a track. `end` is the time at which the last one ends, in the timescale. `frames` frames in
+    `frame_units` seconds are the frame rate; both are 0 without one. `bit_rate` is that of a second on average."""
+    sample_count: int
+    key_frames: int
+    bytes: int
+    end: int
+    bit_rate: int
+    frames: int
+    frame_units: int
+    is_constant: bool
+
+
+class TrackSound(NamedTuple):
+    """The sound of a track: the sample rate in hertz, the channels of the full range, and those of low frequencies."""
+    sample_rate: int
+    channels: int
+    low_channels: int
+
+
+class TrackPicture(NamedTuple):
+    """The pictures of a track: their size in pixels, the shape of a pixel, and the degrees by which a player turns them
+    clockwise. `has_rotation` is False if the matrix of the track does something else."""
+    width: int
+    height: int
+    h_spacing: int
+    v_spacing: int
+    rotation: int
+    has_rotation: bool
+
+
+class TrackProtection(NamedTuple):
+    """The encryption of a track: the code of the sample entry before it was encrypted, the scheme as a code, and the
+    default KID."""
+    original: int
+    scheme: int
+    kid: bytes
+    is_encrypted: bool
+    has_kid: bool
+
+
+class TrackInfo(NamedTuple):
+    """A track that `mp4inspect info` reports. A number that is not known is 0, and a text is then empty. The duration
+    by the edits is `duration` / `duration_scale` seconds."""
+    kind: str
+    codec: str
+    language: str
+    samples: TrackSamples
+    duration: int
+    duration_scale: int
+    sound: TrackSound
+    picture: TrackPicture
+    track_id: int
+    handler: int
+    timescale: int
+    entry: int
+    protection: TrackProtection
+    has_samples: bool
+    has_picture: bool
+    has_sound: bool
+
+
+class FileInfo(NamedTuple):
+    """A file that `mp4inspect info` reports. `brands` begins with the major brand, and `milliseconds` is the duration
+    of the longest track."""
+    length: int
+    milliseconds: int
+    is_fragmented: bool
+    has_movie: bool
+    has_items: bool
+    order: int
+    brands: "array.array[int]"
+    tracks: List[TrackInfo]
+
+
 class SttsRow(NamedTuple):
     """A run of samples with the same duration, in the timescale of the media."""
     sample_count: int
@@ -361,6 +449,21 @@ _STSC = _struct("mp4_stsc_row", first_chunk=u32, samples_per_chunk=u32, sample_d
 _ELST = _struct("mp4_elst_row", segment_duration=_time, media_time=_signed_time, media_rate=u16,
                 media_rate_fraction=u16)
 _RUN = _struct("mp4_trun_row", duration=u32, size=u32, flags=u32, composition_offset=i32)
+_PART = _struct("mp4_text_part", position=size, length=size)
+_FAULT = _struct("mp4_fault", position=u64, path=_PART, text=_PART, code=u32, severity=u32)
+_FAULTS = _struct("mp4_fault_table", count=size, text_bytes=size)
+_TRACK_SAMPLES = _struct("mp4_track_samples", sample_count=u64, key_frames=u64, bytes=u64, end=u64, bit_rate=u64,
+                         frames=u64, frame_units=u64, is_constant=u8)
+_TRACK_PICTURE = _struct("mp4_track_picture", width=u16, height=u16, h_spacing=u32, v_spacing=u32, rotation=u16,
+                         has_rotation=u8)
+_TRACK_SOUND = _struct("mp4_track_sound", sample_rate=u64, channels=u32, low_channels=u32)
+_TRACK_PROTECTION = _struct("mp4_track_protection", original=u32, scheme=u32, kid=u8 * 16, is_encrypted=u8, has_kid=u8)
+_TRACK_INFO = _struct("mp4_track_info", kind=_PART, codec=_PART, language=_PART, samples=_TRACK_SAMPLES, duration=u64,
+                      duration_scale=u64, sound=_TRACK_SOUND, picture=_TRACK_PICTURE, track_id=u32, handler=u32,
+                      timescale=u32, entry=u32, protection=_TRACK_PROTECTION, has_samples=u8, has_picture=u8,
+                      has_sound=u8)
+_FILE_INFO = _struct("mp4_file_info", brand_count=size, track_count=size, text_bytes=size, length=u64,
+                     milliseconds=u64, is_fragmented=u8, has_movie=u8, has_items=u8, order=u8)
 # Numbers that are returned as an array, by the letter of their type in an array.
 _ARRAYS = {u8: "B", u32: "I", u64: "Q"}
 
@@ -467,6 +570,11 @@ _walk_begin = _function("mp4_walk_begin", u64, ctypes.POINTER(_WALK))
 _walk_next = _function("mp4_walk_next", ctypes.c_char_p, size, ctypes.POINTER(_WALK), ctypes.POINTER(_BOX))
 _samples, version = _filled("mp4_samples", _SAMPLE, size, u32), _function("mp4_version")
 _fragment_samples = _filled("mp4_fragment_samples", _SAMPLE, size, u32)
+_check_file = _function("mp4_check_file", ctypes.c_void_p, size, ctypes.c_void_p, size, ctypes.c_void_p, size,
+                        ctypes.c_void_p)
+_info = _function("mp4_info", ctypes.c_void_p, size, ctypes.c_void_p, size, ctypes.c_void_p, size, ctypes.c_void_p,
+                  size, ctypes.c_void_p)
+_fault_name = _function("mp4_fault_name", u32, ctypes.c_char_p, size, ctypes.POINTER(size))
 _status_text = _function("mp4_status_text", u32, ctypes.c_char_p, size, ctypes.POINTER(size))
 
 
@@ -479,6 +587,87 @@ def status_text(status: int) -> str:
     text, count = ctypes.create_string_buffer(200), size()
     _status_text(_number(status, _ALL[u32], "status"), text, len(text), count)
     return text.raw[:count.value].decode("ascii")
+
+
+def fault_name(code: int) -> str:
+    """Returns the word of the code of a fault, or an empty text if no code has this number.
+
+    >>> fault_name(3)
+    'box-cut'
+    """
+    text, count = ctypes.create_string_buffer(200), size()
+    _fault_name(_number(code, _ALL[u32], "code"), text, len(text), count)
+    return text.raw[:count.value].decode("ascii")
+
+
+def _part(text: bytes, part: Any) -> str:
+    """Returns a part of the texts that a call filled."""
+    return text[part.position:part.position + part.length].decode("utf-8", "replace")
+
+
+def _arrays(function: Callable[..., int], data: Any, found: Any, kinds: Dict[str, Any]) -> List[Any]:
+    """Calls a function that fills several arrays and the struct `found`: first for the numbers of elements, and then
+    for the elements. `kinds` has the types of the elements by the members of `found` that count them. Returns the
+    arrays, each of which has one element at least."""
+    counts = [0] * len(kinds)
+    with _Bytes(data) as (address, length):
+        for _ in range(2):
+            made = [(kind * max(count, 1))() for kind, count in zip(kinds.values(), counts)]
+            given = [it for one, count in zip(made, counts) for it in (ctypes.addressof(one), count)]
+            status = function(address, length, *given, ctypes.addressof(found))
+            if status != NO_ROOM:
+                break
+            counts = [getattr(found, it) for it in kinds]
+    if status != OK:
+        raise Mp4Error(status)
+    return made
+
+
+def check_file(data: Any) -> List[Fault]:
+    """Returns the faults that `mp4inspect check` finds in the bytes of a file, in its order.
+
+    >>> check_file(bytes.fromhex("00000010 6d6f6f76 00000009 74726163"))[1]
+    Fault(position=8, path='moov/trac', code=3, severity=1, text='unexpected end of input')
+    """
+    found = _FAULTS()
+    rows, text = _arrays(_check_file, data, found, {"count": _FAULT, "text_bytes": u8})
+    texts = bytes(text)
+    return [Fault(it.position, _part(texts, it.path), it.code, it.severity, _part(texts, it.text))
+            for it in rows[:found.count]]
+
+
+def _members(struct: Any, into: Any) -> Any:
+    """Returns a struct of the header as the named tuple `into`, whose flags are bools."""
+    flags = {name for name, kind in into.__annotations__.items() if kind is bool}
+    values = {name: getattr(struct, name) for name in into._fields}
+    return into(**{name: bool(it) if name in flags else bytes(it) if isinstance(it, ctypes.Array) else it
+                   for name, it in values.items()})
+
+
+def _track_of(struct: Any, texts: bytes) -> TrackInfo:
+    """Returns a track as a named tuple, with its texts."""
+    found: TrackInfo = _members(struct, TrackInfo)
+    return found._replace(
+        kind=_part(texts, struct.kind), codec=_part(texts, struct.codec), language=_part(texts, struct.language),
+        samples=_members(struct.samples, TrackSamples), sound=_members(struct.sound, TrackSound),
+        picture=_members(struct.picture, TrackPicture), protection=_members(struct.protection, TrackProtection))
+
+
+def info(data: Any) -> FileInfo:
+    """Returns what `mp4inspect info` knows of the bytes of a file. A box with a fault counts as missing.
+
+    >>> found = info(bytes.fromhex("00000014 66747970 69736f6d 00000200 61766331"))
+    >>> found.length, [code.to_bytes(4, "big") for code in found.brands], found.has_movie, found.tracks
+    (20, [b'isom', b'avc1'], False, [])
+    """
+    found = _FILE_INFO()
+    kinds = {"brand_count": u32, "track_count": _TRACK_INFO, "text_bytes": u8}
+    brands, tracks, text = _arrays(_info, data, found, kinds)
+    texts = bytes(text)
+    return FileInfo(
+        found.length, found.milliseconds, bool(found.is_fragmented), bool(found.has_movie), bool(found.has_items),
+        found.order, _listed((u32 * found.brand_count)(*brands[:found.brand_count]), None, u32),
+        [_track_of(it, texts) for it in tracks[:found.track_count]])
 
 
 def elst(data: Any) -> Table:

@@ -1,6 +1,7 @@
 //! Reads and writes the boxes of MP4 files (ISO/IEC 14496-12) by safe calls of libmp4_box_codec, for Rust programs.
 //!
 //! - `tree` and `tree_of` return all boxes of a file, `tracks` its tracks, and `samples` the samples of a track.
+//! - `check_file` returns the faults of a file, and `info` what the file and its tracks are.
 //! - `ReadBox` and `WriteBox` read and write single boxes. Structs have the names of the crate `mp4`.
 //! - `fields` returns the fields of a box of any of 102 types as JSON.
 //!
@@ -25,6 +26,8 @@ mod calls;
 mod code;
 mod entries;
 mod error;
+mod faults;
+mod info;
 mod numbers;
 #[allow(missing_docs)]
 mod raw;
@@ -42,6 +45,8 @@ pub use entries::{
 };
 pub use entries::{DecoderConfigDescriptor, DecoderSpecificDescriptor, ESDescriptor, EsdsBox, Mp4aBox};
 pub use error::{Error, Fault};
+pub use faults::{check_file, FaultCode, FileFault, Severity};
+pub use info::{info, Encryption, FileInfo, FrameRate, Picture, SampleTotals, Sound, TrackInfo};
 pub use numbers::{DataType, FixedPointI8, FixedPointU16, FixedPointU8, Matrix, RgbColor, RgbaColor, TrackType};
 pub use rows::{CttsEntry, ElstEntry, Place, Sample, Span, StscEntry, SttsEntry, TrunEntry};
 pub use texts::{DataBox, DinfBox, DrefBox, EmsgBox, FtypBox, HdlrBox, UrlBox};

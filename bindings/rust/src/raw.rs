@@ -13,6 +13,10 @@ pub const NO_ROOM: u32 = 100;
 pub const NO_TRACK: u32 = 101;
 pub const UNKNOWN_BOX: u32 = 102;
 
+pub const WARNING: u32 = 2;
+pub const MOOV_FIRST: u8 = 1;
+pub const MOOV_LAST: u8 = 2;
+
 /// A function that fills an array and a summary.
 pub type Fills<R, S> = unsafe extern "C" fn(*const u8, usize, *mut R, usize, *mut S) -> u32;
 /// A function that fills the lengths of parameter sets, their bytes and a struct.
@@ -113,6 +117,27 @@ structs! {
         handler: u32, what: u8, stsd_version: u8,
     }
     WalkLevel { end: u64, parent: u32, handler: u32, stsd_version: u8, }
+    TextPart { position: usize, length: usize, }
+    FaultRow { position: u64, path: TextPart, text: TextPart, code: u32, severity: u32, }
+    FaultTable { count: usize, text_bytes: usize, }
+    TrackSamples {
+        sample_count: u64, key_frames: u64, bytes: u64, end: u64, bit_rate: u64, frames: u64, frame_units: u64,
+        is_constant: u8,
+    }
+    TrackPicture {
+        width: u16, height: u16, h_spacing: u32, v_spacing: u32, rotation: u16, has_rotation: u8,
+    }
+    TrackSound { sample_rate: u64, channels: u32, low_channels: u32, }
+    TrackProtection { original: u32, scheme: u32, kid: [u8; 16], is_encrypted: u8, has_kid: u8, }
+    TrackInfo {
+        kind: TextPart, codec: TextPart, language: TextPart, samples: TrackSamples, duration: u64, duration_scale: u64,
+        sound: TrackSound, picture: TrackPicture, track_id: u32, handler: u32, timescale: u32, entry: u32,
+        protection: TrackProtection, has_samples: u8, has_picture: u8, has_sound: u8,
+    }
+    FileInfo {
+        brand_count: usize, track_count: usize, text_bytes: usize, length: u64, milliseconds: u64, is_fragmented: u8,
+        has_movie: u8, has_items: u8, order: u8,
+    }
 }
 
 /// The state of a walk.
@@ -174,12 +199,30 @@ extern "C" {
     pub fn mp4_version() -> u32;
     pub fn mp4_status_text(status: u32, text: *mut u8, places: usize, count: *mut usize) -> u32;
     pub fn mp4_walk_begin(length: u64, walk: *mut Walk) -> u32;
+    #[cfg(test)]
+    pub fn mp4_fault_name(code: u32, text: *mut u8, places: usize, count: *mut usize) -> u32;
 }
 
 from_bytes! {
     mp4_check();
     mp4_find(path: *const u8, path_length: usize, place: *mut Place);
     mp4_walk_next(walk: *mut Walk, found: *mut Box);
+    mp4_check_file(
+        faults: *mut FaultRow,
+        places: usize,
+        text: *mut u8,
+        text_places: usize,
+        table: *mut FaultTable
+    );
+    mp4_info(
+        brands: *mut u32,
+        brand_places: usize,
+        tracks: *mut TrackInfo,
+        track_places: usize,
+        text: *mut u8,
+        text_places: usize,
+        file: *mut FileInfo
+    );
     mp4_samples(track_id: u32, samples: *mut Sample, places: usize, count: *mut usize);
     mp4_fragment_samples(track_id: u32, samples: *mut Sample, places: usize, count: *mut usize);
     mp4_avcc(lengths: *mut usize, places: usize, set_bytes: *mut u8, byte_places: usize, fields: *mut Avcc);

@@ -291,7 +291,77 @@ fn tracks_of_a_movie() {
     assert_eq!((track.width(), track.height(), track.box_type()), (0x81, 0x82, Some(FourCC::new(b"avc1"))));
     assert_eq!(track.box_types.iter().map(FourCC::to_string).collect::<Vec<_>>(), ["avc1", "Opus"]);
     assert_eq!(track.samples(&file), samples(&file, 7));
+    assert_eq!((track.position, track.path.as_str()), (8, "moov/trak"));
     assert_eq!(tracks(b""), fault(Fault::BoxNotFound));
+    // The stts counts two samples, and the stsz three.
+    let position = find(&file, "moov/trak/mdia/minf/stbl/stts").unwrap().unwrap().position as usize;
+    let mut shorter = file.clone();
+    shorter[position + 19] = 2;
+    let error = tracks(&shorter).unwrap()[0].samples(&shorter).unwrap_err();
+    assert_eq!(error, Error::At { position: 8, path: "moov/trak".into(), fault: Fault::DurationsDisagree });
+}
+
+#[test]
+fn faults_of_a_file() {
+    let found = check_file(b"\0\0\0\x10moov\0\0\0\x09trac").unwrap();
+    let lines: Vec<_> = found.iter().map(FileFault::to_string).collect();
+    assert_eq!(lines, ["0 moov: there is no mvhd", "8 moov/trac: unexpected end of input"]);
+    assert_eq!((found[0].code, found[0].severity), (FaultCode::BoxMissing, Severity::Error));
+    assert_eq!((found[1].position, found[1].code), (8, FaultCode::BoxCut));
+    let header = table_box("mfhd", 0, 0, &[1]);
+    let [second] = <[FileFault; 1]>::try_from(check_file(&nested("moof", &[header.clone(), header])).unwrap()).unwrap();
+    assert_eq!(
+        (second.code, second.severity, second.path.as_str()),
+        (FaultCode::BoxRepeated, Severity::Warning, "moof/mfhd[1]")
+    );
+    assert_eq!(
+        second.to_string(),
+        "24 moof/mfhd[1]: warning: a moof may have only one mfhd, and there is one before this at 8"
+    );
+    assert_eq!((second.code.to_string().as_str(), second.severity.to_string().as_str()), ("box-repeated", "warning"));
+    let none: Vec<_> = check_file(b"").unwrap().iter().map(|it| it.code).collect();
+    assert_eq!(none, [FaultCode::MovieMissing]);
+    assert_eq!(check_file(&nested("moof", &[table_box("mfhd", 0, 0, &[1])])), Ok(vec![]));
+}
+
+/// A stored movie, of which `tests/c/info.c` has the same facts.
+fn stored(name: &str) -> Option<Vec<u8>> {
+    let folder = std::env::var("TEST_MOVIES").ok()?;
+    Some(std::fs::read(format!("{folder}/{name}.mp4")).unwrap())
+}
+
+#[test]
+fn facts_of_stored_movies() {
+    let (video, fragments) = match (stored("video"), stored("fragments")) {
+        (Some(video), Some(fragments)) => (video, fragments),
+        _ => return,
+    };
+    let found = info(&video).unwrap();
+    assert_eq!(found.brands, [b"isom", b"isom", b"iso2", b"avc1", b"mp41"].map(FourCC::from));
+    assert_eq!((found.length, found.duration.as_millis(), found.moov_first), (1857, 2000, Some(false)));
+    assert_eq!((found.has_movie, found.is_fragmented, found.has_items), (true, false, false));
+    let track = &found.tracks[0];
+    assert_eq!((track.kind.as_str(), track.codec.as_str(), track.language.as_str()), ("video", "avc1.64000a", "deu"));
+    assert_eq!((track.track_id, track.timescale, track.duration), (1, 10240, Some(std::time::Duration::from_secs(2))));
+    let samples = track.samples.unwrap();
+    assert_eq!((samples.sample_count, samples.key_frames, samples.bytes, samples.end), (20, 2, 902, 20480));
+    let rate = samples.frame_rate.unwrap();
+    assert_eq!((rate.frames, rate.units, rate.is_constant, samples.bit_rate), (10240, 1024, true, 3608));
+    let picture = track.picture.unwrap();
+    assert_eq!((picture.width, picture.height, picture.rotation), (32, 32, Some(0)));
+    assert_eq!((picture.pixel_aspect, track.sound, track.encryption), (Some((1, 1)), None, None));
+    let found = info(&fragments).unwrap();
+    assert_eq!((found.is_fragmented, found.moov_first, found.tracks.len()), (true, Some(true), 2));
+    let sound = &found.tracks[1];
+    assert_eq!(
+        (sound.kind.as_str(), sound.codec.as_str(), sound.duration.unwrap().as_millis()),
+        ("audio", "mp4a.40.2", 1200)
+    );
+    let channels = sound.sound.unwrap();
+    assert_eq!((channels.sample_rate, channels.channels, channels.low_channels), (8000, 1, 0));
+    let listed: Vec<_> =
+        tracks_of(&mut std::io::Cursor::new(&fragments)).unwrap().into_iter().map(|it| it.info).collect();
+    assert_eq!(listed, found.tracks);
 }
 
 #[test]

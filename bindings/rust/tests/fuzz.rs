@@ -127,6 +127,15 @@ fn is_plain(it: TreeBox<'_>) -> bool {
 /// Calls the functions for the bytes of a file. Returns how many boxes are read into structs.
 fn call(file: &[u8]) -> usize {
     let _ = (check(file), list(file), normal(file), tracks(file), find(file, "moov/trak/mdia/mdhd"));
+    for it in check_file(file).unwrap() {
+        assert!(it.position <= file.len() as u64 && !it.path.is_empty() && !it.text.is_empty(), "{it}");
+    }
+    let known = info(file).unwrap();
+    let listed = tree(file).unwrap();
+    let traks = listed.find("moov").map_or(0, |moov| moov.children().filter(|it| it.code == "trak").count());
+    assert_eq!((known.length, known.tracks.len()), (file.len() as u64, traks));
+    let read = tracks_of(&mut std::io::Cursor::new(file)).map(|found| found.into_iter().map(|it| it.info).collect());
+    assert_eq!(read.unwrap_or_else(|_| known.tracks.clone()), known.tracks);
     for sample in samples(file, 1).into_iter().chain(fragment_samples(file, 1)).flatten().take(100) {
         sample.bytes(file);
     }

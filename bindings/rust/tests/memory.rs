@@ -101,12 +101,16 @@ fn refused_requests() {
     each_refused(2, || FtypBox::read_box(&bytes));
     // The spans of the library, and those of the crate.
     each_refused(2, || list(&bytes));
+    // The brands of the library, and those of the crate.
+    each_refused(2, || info(&bytes));
     // The output, and the text of the language.
     let media = MdhdBox::default();
     each_refused(1, || media.to_bytes());
     let bytes = media.to_bytes().unwrap();
     each_refused(1, || MdhdBox::read_box(&bytes));
     each_refused(1, || container(FourCC::new(b"moov"), &[&bytes]));
+    // The rows and the texts of the library, the faults, and a path and a text for each of the two.
+    each_refused(7, || check_file(b"\0\0\0\x10moov\0\0\0\x09trac"));
 
     // A list of 9 boxes grows twice after the first request: its capacities are 4, 8 and 16.
     let file = b"\0\0\0\x08free".repeat(9);

@@ -14,6 +14,7 @@ fn another_version_is_refused() {
     let mut found = vec![check(bytes).err(), list(bytes).err(), normal(bytes).err(), fields(bytes).err()];
     found.extend([find(bytes, "free").err(), samples(bytes, 1).err(), fragment_samples(bytes, 1).err()]);
     found.extend([tree(bytes).err(), tree_of(&mut std::io::Cursor::new(bytes)).err(), tracks(bytes).err()]);
+    found.extend([check_file(bytes).err(), info(bytes).err()]);
 
     macro_rules! errors {
         ($($name:ident)*; $($write:ident)*) => {
@@ -28,6 +29,6 @@ fn another_version_is_refused() {
         StssBox SttsBox CttsBox StscBox ElstBox TrunBox FtypBox HdlrBox DrefBox StsdBox
     }
     found.push(EmsgBox { presentation_time_delta: Some(0), ..EmsgBox::default() }.to_bytes().err());
-    assert_eq!(found.len(), 70);
+    assert_eq!(found.len(), 72);
     assert!(found.iter().all(|it| *it == Some(why())), "{found:?}");
 }

@@ -8,3 +8,8 @@ pub mod Levels
 pub mod Walks
 pub mod Front
 pub mod Fields
+pub mod TextParts
+pub mod FaultRows
+pub mod FaultRowsLaws
+pub mod TrackInfos
+pub mod FileInfos

@@ -5,6 +5,7 @@
 //!
 //! - `check`, `list`, `find`, `fields` and `normal` take the bytes of a file or of a box of any type.
 //! - `samples` and `fragment_samples` list the samples of a track.
+//! - `file_faults` lists what `mp4inspect check` finds in a file, and `file_info` what `mp4inspect info` knows of it.
 //! - `file_walk` visits the boxes of a file that isn't in memory.
 //! - `about` gives the version and the meaning of a status.
 //! - `flat`, `tables`, `text`, `entries` and `sound` read and write the boxes of `mp4_flat`, `mp4_tables` and so on.
@@ -19,6 +20,8 @@ pub mod about;
 pub mod check;
 pub mod entries;
 pub mod fields;
+pub mod file_faults;
+pub mod file_info;
 pub mod file_walk;
 pub mod find;
 pub mod flat;
@@ -31,5 +34,7 @@ pub mod samples;
 pub mod sound;
 pub mod tables;
 pub mod text;
+pub mod text_part;
 mod track;
+pub mod track_info;
 pub mod walk_level;

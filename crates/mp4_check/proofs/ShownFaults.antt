@@ -1,48 +1,12 @@
 -- The faults that are written, in order.
-use Rattle.std.proofs.Common.{◌≡◌, ℕ, Bool, true, List, [], ◌∷◌, ◌++◌, refl, sym, ap, subst, ◌∙◌, append_assoc}
-use Rattle.std.proofs.Common.{append-nil}
-use Rattle.std.proofs.KnownBytes.{Appends-nil, Appends-trans}
-use Rattle.std.proofs.lemmas.List.Sums.{fold-append}
+use Rattle.std.proofs.Common.{◌≡◌, ℕ, List, [], ◌∷◌, ◌++◌, refl, sym, ap, subst, ◌∙◌, append_assoc, append-nil}
+use Rattle.std.proofs.KnownBytes.{Appends-trans}
 use Rattle.std.specs.Io.KnownBytes.{Appends}
 use Rattle.std.specs.declared.option.Option.{Option}
 use Rattle.mp4_check.specs.FaultValues.{Value}
-use Rattle.mp4_check.specs.Lines.{AreShown, IsShown, Writes, between, severity_at, told_after, told_all}
+use Rattle.mp4_check.specs.Lines.{IsShown, Writes, between, severity_at, told_after}
 use Rattle.mp4_check.specs.declared.lines.Form.{Form}
 use Rattle.mp4_check.specs.declared.lines.Told.{Told}
-
-abbrev any_after : Bool → List Value → Bool
-any_after any [] = any
-any_after any (v ∷ vs) = true
-
-after_one : (vs : List Value) → any_after true vs ≡ true
-after_one [] = refl
-after_one (v ∷ vs) = refl
-
-any_is : (told : Told) (vs : List Value) → (told_all told vs).any ≡ any_after told.any vs
-any_is told [] = refl
-any_is told (v ∷ vs) = any_is (told_after told (severity_at v)) vs ∙ after_one vs
-
-shown_append : (form : Form) (any : Bool) (vs ws : List Value) (one other : List ℕ) → AreShown form any vs one
-    → AreShown form (any_after any vs) ws other → AreShown form any (vs ++ ws) (one ++ other)
-shown_append form any [] ws one other none shown =
-    subst (λ (text : List ℕ). AreShown form any ws text) (sym (ap (λ (xs : List ℕ). xs ++ other) none)) shown
-shown_append form any (v ∷ vs) ws one other (first, rest, is, are, text) shown = (
-  first,
-  rest ++ other,
-  is,
-  shown_append form true vs ws rest other are
-      (subst (λ (b : Bool). AreShown form b ws other) (sym (after_one vs)) shown),
-  ap (λ (xs : List ℕ). xs ++ other) text
-      ∙ append_assoc (between form any) (first ++ rest) other
-      ∙ ap (λ (xs : List ℕ). between form any ++ xs) (append_assoc first rest other),
-)
-
-told_append : (told : Told) (vs ws : List Value) → told_all told (vs ++ ws) ≡ told_all (told_all told vs) ws
-told_append told vs ws = fold-append (λ (t : Told) (v : Value). told_after t (severity_at v)) told vs ws
-
--- No fault is written.
-pub writes_none : (form : Form) (told : Told) (old : Option (List ℕ)) → Writes form told [] old old told
-writes_none form told old = ([], refl, Appends-nil old, refl)
 
 -- One fault is written.
 pub writes_one : (form : Form) (told now : Told) (v : Value) (front one : List ℕ) (a b c : Option (List ℕ))
@@ -56,37 +20,42 @@ writes_one form told now v front one a b c shown is put put_then told_is = (
   told_is,
 )
 
--- Some faults are written, and then others.
-pub writes_more : (form : Form) (told between now : Told) (vs ws : List Value) (a b c : Option (List ℕ))
-    → Writes form told vs a b between → Writes form between ws b c now → Writes form told (vs ++ ws) a c now
-writes_more form told between now vs ws a b c (one, shown, put, is) (other, shown_then, put_then, is_then) = (
-  one ++ other,
-  shown_append form told.any vs ws one other shown
-      (subst (λ (b : Bool). AreShown form b ws other) (ap (λ (t : Told). t.any) is ∙ any_is told vs) shown_then),
-  Appends-trans a b c one other put put_then,
-  is_then ∙ ap (λ (t : Told). told_all t ws) is ∙ sym (told_append told vs ws),
-)
+-- The faults with these values are written to an output, and the two summaries are those before and after them.
+abbrev pub Written : Type 0 → Type 1
+Written O = Told → List Value → O → O → Told → Type 0
+
+-- The laws of a form: without a fault nothing is written, and faults may be written in parts.
+pub record Laws {O : Type 0} (W : Written O) : Type 0 where
+  pub none : (told : Told) (a : O) → W told [] a a told
+  pub more : (told between now : Told) (vs ws : List Value) (a b c : O) → W told vs a b between → W between ws b c now
+      → W told (vs ++ ws) a c now
+
+-- The laws of a form are those that its trait has.
+pub form_laws : {F O : Type 0} (W : F → Written O) (none : (form : F) (told : Told) (a : O) → W form told [] a a told)
+    (more : (form : F) (told between now : Told) (vs ws : List Value) (a b c : O) → W form told vs a b between
+    → W form between ws b c now → W form told (vs ++ ws) a c now)
+    (form : F) → Laws (W form)
+form_laws W none more form = record { none = none form; more = more form }
 
 -- Some of all faults are written, and these are left.
-abbrev pub WritesFirst : Form → Told → List Value → List Value → Option (List ℕ) → Option (List ℕ) → Told → Type 0
-WritesFirst form told all left old new now =
-    (vs : List Value) × Writes form told vs old new now × (vs ++ left ≡ all)
+abbrev pub WritesFirst : {O : Type 0} → Written O → Told → List Value → List Value → O → O → Told → Type 0
+WritesFirst W told all left old new now = (vs : List Value) × W told vs old new now × (vs ++ left ≡ all)
 
-pub first_none : (form : Form) (told : Told) (all : List Value) (old : Option (List ℕ))
-    → WritesFirst form told all all old old told
-first_none form told all old = ([], writes_none form told old, refl)
+pub first_none : {O : Type 0} (W : Written O) (laws : Laws W) (told : Told) (all : List Value) (old : O)
+    → WritesFirst W told all all old old told
+first_none W laws told all old = ([], laws.none told old, refl)
 
-pub first_more : (form : Form) (told between now : Told) (all left one rest : List Value) (a b c : Option (List ℕ))
-    → left ≡ one ++ rest → WritesFirst form told all left a b between → Writes form between one b c now
-    → WritesFirst form told all rest a c now
-first_more form told between now all left one rest a b c is (vs, written, sum) more = (
+pub first_more : {O : Type 0} (W : Written O) (laws : Laws W) (told between now : Told)
+    (all left one rest : List Value) (a b c : O) → left ≡ one ++ rest → WritesFirst W told all left a b between
+    → W between one b c now → WritesFirst W told all rest a c now
+first_more W laws told between now all left one rest a b c is (vs, written, sum) more = (
   vs ++ one,
-  writes_more form told between now vs one a b c written more,
+  laws.more told between now vs one a b c written more,
   append_assoc vs one rest ∙ ap (λ (xs : List Value). vs ++ xs) (sym is) ∙ sum,
 )
 
-pub first_all : (form : Form) (told now : Told) (all left : List Value) (old new : Option (List ℕ)) → left ≡ []
-    → WritesFirst form told all left old new now → Writes form told all old new now
-first_all form told now all left old new none (vs, written, sum) =
-    subst (λ (xs : List Value). Writes form told xs old new now)
+pub first_all : {O : Type 0} (W : Written O) (told now : Told) (all left : List Value) (old new : O) → left ≡ []
+    → WritesFirst W told all left old new now → W told all old new now
+first_all W told now all left old new none (vs, written, sum) =
+    subst (λ (xs : List Value). W told xs old new now)
     (sym (append-nil vs) ∙ ap (λ (xs : List Value). vs ++ xs) (sym none) ∙ sum) written

@@ -13,6 +13,7 @@ pub mod Headers
 pub mod Indexes
 pub mod Kinds
 pub mod Lines
+pub mod LinesLaws
 pub mod Looked
 pub mod Media
 pub mod Outside

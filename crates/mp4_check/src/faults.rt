@@ -5,12 +5,11 @@ ghost use Rattle.std.specs.BTreeMap.{get};
 ghost use Rattle.std.specs.Ordering.{nat_cmp};
 ghost use Rattle.mp4_check.specs.BoxFaults.{faults_of_boxes};
 ghost use Rattle.mp4_check.specs.FaultValues.{fault_at, values_of};
-ghost use Rattle.mp4_check.specs.Faults.{WritesCheck, facts_of, file_of, is_top_file, lacks_movie};
+ghost use Rattle.mp4_check.specs.Faults.{WritesCheck, facts_of, faults_of, file_of, is_top_file, lacks_movie};
 ghost use Rattle.mp4_check.specs.Faults.{tracks_faults};
 ghost use Rattle.mp4_check.specs.FragmentFaults.{AreFacts, File, IsGoing, Times, faults_of_trafs, found_at};
 ghost use Rattle.mp4_check.specs.FragmentFaults.{fragment_faults, times_after, trafs_of};
 ghost use Rattle.mp4_check.specs.Indexes.{AreStarts, faults_of_indexes, index_faults, index_what};
-ghost use Rattle.mp4_check.specs.Lines.{Writes};
 ghost use Rattle.mp4_check.specs.Media.{AreInOrder};
 ghost use Rattle.mp4_check.specs.Paths.{in_file, single};
 ghost use Rattle.mp4_check.specs.TrackFaults.{IsMet, faults_of_tracks, header_position, movie_fault, movie_faults};
@@ -26,6 +25,7 @@ ghost use Rattle.mp4_walk.specs.declared.tree_box.TreeBox.{TreeBox};
 
 use crate::box_faults::box_faults;
 use crate::fault::{Fault, Reason, What};
+use crate::fault_form::FaultForm;
 use crate::fragments::{FileFacts, Going, TrafPlace, traf_faults};
 use crate::headers::movie_times;
 use crate::indexes::{Starts, index_what, starts_of};
@@ -49,18 +49,18 @@ use std::collections::BTreeMap;
 use std::io::Write;
 
 /// Writes the faults of each of `boxes`, in order. Returns what was written, with them.
-fn write_boxes<B: Shown, S: Source, W: Write>(
+fn write_boxes<B: Shown, S: Source, F: FaultForm<O>, O>(
     alloc: Global,
     walk: &mut BoxWalk<S>,
     boxes: &[TreeBox],
-    form: Form<'_>,
+    form: F,
     told: Told,
-    output: &mut Output<W>,
+    output: &mut O,
 ) -> std::result::Result<Told, Failure>
     ensures value { IfSome walk.old.bytes
-        (λ file. IfOk result (λ now. Writes form.entry told
+        (λ file. IfOk result (λ now. F.writes form told
         (faults_of_boxes B.known B.named_reading file [] boxes.now)
-        (W.contents output.old.inner) (W.contents output.new.inner) now)) }
+        output.old output.new now)) }
     ensures kept { walk.new ≡ walk.old }
 {
     let mut written = told;
@@ -99,21 +99,21 @@ fn movie_facts<S: Source>(
 
 /// Writes the faults of the tracks of a movie, and stores the tracks in `met`. `movie` begins with the boxes inside its
 /// `moov`. Returns what was written, with them.
-fn write_tracks<S: Source, W: Write>(
+fn write_tracks<S: Source, F: FaultForm<O>, O>(
     alloc: Global,
     walk: &mut BoxWalk<S>,
     movie: &[TreeBox],
     facts: &MovieFacts,
     met: &mut Met,
-    form: Form<'_>,
+    form: F,
     told: Told,
-    output: &mut Output<W>,
+    output: &mut O,
 ) -> std::result::Result<Told, Failure>
     requires { AreInOrder 0 facts.now.media.extents.items }
     ensures value { IfSome walk.old.bytes
-        (λ file. IsMet file [] met.old → IfOk result (λ now. Writes form.entry told
+        (λ file. IsMet file [] met.old → IfOk result (λ now. F.writes form told
         (faults_of_tracks file (value_of_facts facts.now) [] 0 (all_in 1 (four_cc_of names.TRAK) movie.now))
-        (W.contents output.old.inner) (W.contents output.new.inner) now)) }
+        output.old output.new now)) }
     ensures met { IfSome walk.old.bytes
         (λ file. IsMet file [] met.old → OnOk result
         (IsMet file (all_in 1 (four_cc_of names.TRAK) movie.now) met.new)) }
@@ -183,23 +183,23 @@ fn movie_faults(alloc: Global, facts: &MovieFacts, longest: Option<u64>) -> Resu
 
 /// Writes the faults of the `moof` at `moof`, which is number `number` of the file. Returns what was written, with
 /// them.
-fn write_moof<S: Source, W: Write>(
+fn write_moof<S: Source, F: FaultForm<O>, O>(
     alloc: Global,
     walk: &mut BoxWalk<S>,
     moof: BoxLocation<'_>,
     number: u64,
     facts: &FileFacts,
     going: &mut Going,
-    form: Form<'_>,
+    form: F,
     told: Told,
-    output: &mut Output<W>,
+    output: &mut O,
 ) -> std::result::Result<Told, Failure>
     requires { AreInOrder 0 facts.now.media.extents.items }
     ensures value { (f : File) (times : Times) → walk.old.bytes ≡ Some f.bytes → AreFacts f facts.now
-        → IsGoing times going.old.end going.old → IfOk result (λ now. Writes form.entry told
+        → IsGoing times going.old.end going.old → IfOk result (λ now. F.writes form told
         (faults_of_trafs f number moof.entry.found.position (Some moof.entry.found.position) times 0
         (trafs_of (found_at moof.entry)))
-        (W.contents output.old.inner) (W.contents output.new.inner) now) }
+        output.old output.new now) }
     ensures going { (f : File) (times : Times) → walk.old.bytes ≡ Some f.bytes → AreFacts f facts.now
         → IsGoing times going.old.end going.old → OnOk result (IsGoing
         (times_after f moof.entry.found.position (Some moof.entry.found.position) times
@@ -227,19 +227,19 @@ fn write_moof<S: Source, W: Write>(
 }
 
 /// Writes the faults of all fragments of a file with the boxes `boxes`. Returns what was written, with them.
-fn write_fragments<S: Source, W: Write>(
+fn write_fragments<S: Source, F: FaultForm<O>, O>(
     alloc: Global,
     walk: &mut BoxWalk<S>,
     boxes: &[TreeBox],
     facts: &FileFacts,
-    form: Form<'_>,
+    form: F,
     told: Told,
-    output: &mut Output<W>,
+    output: &mut O,
 ) -> std::result::Result<Told, Failure>
     requires { AreInOrder 0 facts.now.media.extents.items }
     ensures value { (f : File) → walk.old.bytes ≡ Some f.bytes → f.boxes ≡ boxes.now → AreFacts f facts.now
-        → IfOk result (λ now. Writes form.entry told (fragment_faults f)
-        (W.contents output.old.inner) (W.contents output.new.inner) now) }
+        → IfOk result (λ now. F.writes form told (fragment_faults f)
+        output.old output.new now) }
     ensures kept { walk.new ≡ walk.old }
 {
     let mut written = told;
@@ -309,19 +309,19 @@ fn has_indexes(boxes: &[TreeBox]) -> bool
 }
 
 /// Writes the faults of the indexes in `boxes`, the boxes of a file. Returns what was written, with them.
-fn write_each_index<S: Source, W: Write>(
+fn write_each_index<S: Source, F: FaultForm<O>, O>(
     alloc: Global,
     walk: &mut BoxWalk<S>,
     boxes: &[TreeBox],
-    form: Form<'_>,
+    form: F,
     told: Told,
-    output: &mut Output<W>,
+    output: &mut O,
 ) -> std::result::Result<Told, Failure>
     ensures value { IfSome walk.old.bytes
-        (λ file. IfOk result (λ now. Writes form.entry told
+        (λ file. IfOk result (λ now. F.writes form told
         (faults_of_indexes ⟦<SidxBox as ReadBox>⟧.reads file boxes.now (length file) 0
         (all_in 0 (four_cc_of names.SIDX) boxes.now))
-        (W.contents output.old.inner) (W.contents output.new.inner) now)) }
+        output.old output.new now)) }
     ensures kept { walk.new ≡ walk.old }
 {
     let size = file_length(walk);
@@ -341,18 +341,18 @@ fn write_each_index<S: Source, W: Write>(
 
 /// Writes the faults of the indexes of a file with the boxes `boxes`, if it has fragments. Returns what was written,
 /// with them.
-fn write_indexes<S: Source, W: Write>(
+fn write_indexes<S: Source, F: FaultForm<O>, O>(
     alloc: Global,
     walk: &mut BoxWalk<S>,
     boxes: &[TreeBox],
-    form: Form<'_>,
+    form: F,
     told: Told,
-    output: &mut Output<W>,
+    output: &mut O,
 ) -> std::result::Result<Told, Failure>
     ensures value { IfSome walk.old.bytes
-        (λ file. IfOk result (λ now. Writes form.entry told
+        (λ file. IfOk result (λ now. F.writes form told
         (index_faults ⟦<SidxBox as ReadBox>⟧.reads file boxes.now (length file))
-        (W.contents output.old.inner) (W.contents output.new.inner) now)) }
+        output.old output.new now)) }
     ensures kept { walk.new ≡ walk.old }
 {
     if !has_indexes(boxes) {
@@ -385,18 +385,18 @@ fn lacks_movie(boxes: &[TreeBox]) -> Option<What>
 
 /// Writes the faults of the movie of a file with the boxes `boxes`, and of its tracks, and stores the tracks in `met`.
 /// Returns what was written, with them.
-fn write_movie<S: Source, W: Write>(
+fn write_movie<S: Source, F: FaultForm<O>, O>(
     alloc: Global,
     walk: &mut BoxWalk<S>,
     boxes: &[TreeBox],
     met: &mut Met,
-    form: Form<'_>,
+    form: F,
     told: Told,
-    output: &mut Output<W>,
+    output: &mut O,
 ) -> std::result::Result<Told, Failure>
     ensures value { IfSome walk.old.bytes
-        (λ file. boxes.now ≡ boxes_of file → IsMet file [] met.old → IfOk result (λ now. Writes form.entry told
-        (tracks_faults file boxes.now) (W.contents output.old.inner) (W.contents output.new.inner) now)) }
+        (λ file. boxes.now ≡ boxes_of file → IsMet file [] met.old → IfOk result (λ now. F.writes form told
+        (tracks_faults file boxes.now) output.old output.new now)) }
     ensures met { IfSome walk.old.bytes
         (λ file. boxes.now ≡ boxes_of file → IsMet file [] met.old
         → OnOk result (IsMet file (traks boxes.now) met.new)) }
@@ -452,9 +452,34 @@ fn file_facts<S: Source>(
     })
 }
 
-/// Writes the faults of a file with the boxes `boxes`, and returns what was written: first those of single boxes, then
-/// those of the tracks and of the movie, of the fragments and of the indexes, each in the order of the file, and at the
-/// end that of a file without a movie. `any` says whether a fault of another file was written before.
+/// Writes the faults of a file with the boxes `boxes` in a form of your own, and returns the summary `told` with them.
+/// First come the faults of single boxes, then those of the tracks and of the movie, of the fragments and of the
+/// indexes, each in the order of the file, and at the end that of a file without a movie.
+pub fn write_faults_as<B: Shown, S: Source, F: FaultForm<O>, O>(
+    alloc: Global,
+    walk: &mut BoxWalk<S>,
+    boxes: &[TreeBox],
+    form: F,
+    told: Told,
+    output: &mut O,
+) -> std::result::Result<Told, Failure>
+    ensures check { IfSome walk.old.bytes
+        (λ file. boxes.now ≡ boxes_of file → IfOk result (λ now. F.writes form told
+        (faults_of B.known B.named_reading ⟦<SidxBox as ReadBox>⟧.reads file) output.old output.new now)) }
+    ensures kept { walk.new ≡ walk.old }
+{
+    let with_boxes = write_boxes::<B, S, F, O>(alloc, walk, boxes, form, told, output)?;
+    let mut met = Met::new(alloc);
+    let with_movie = write_movie(alloc, walk, boxes, &mut met, form, with_boxes, output)?;
+    let facts = file_facts(alloc, walk, boxes, met)?;
+    let with_fragments = write_fragments(alloc, walk, boxes, &facts, form, with_movie, output)?;
+    let with_indexes = write_indexes(alloc, walk, boxes, form, with_fragments, output)?;
+    let last = or_memory(one_fault(alloc, 0, MOOV, 0, lacks_movie(boxes)))?;
+    write_all_faults(alloc, &last, form, with_indexes, output)
+}
+
+/// Writes the faults of a file with the boxes `boxes` as lines or as objects, and returns what was written, as
+/// `write_faults_as` does. `any` says whether a fault of another file was written before.
 pub fn write_faults<B: Shown, S: Source, W: Write>(
     alloc: Global,
     walk: &mut BoxWalk<S>,
@@ -474,12 +499,5 @@ pub fn write_faults<B: Shown, S: Source, W: Write>(
         failures: false,
         warnings: false,
     };
-    let with_boxes = write_boxes::<B, S, W>(alloc, walk, boxes, form, told, output)?;
-    let mut met = Met::new(alloc);
-    let with_movie = write_movie(alloc, walk, boxes, &mut met, form, with_boxes, output)?;
-    let facts = file_facts(alloc, walk, boxes, met)?;
-    let with_fragments = write_fragments(alloc, walk, boxes, &facts, form, with_movie, output)?;
-    let with_indexes = write_indexes(alloc, walk, boxes, form, with_fragments, output)?;
-    let last = or_memory(one_fault(alloc, 0, MOOV, 0, lacks_movie(boxes)))?;
-    write_all_faults(alloc, &last, form, with_indexes, output)
+    write_faults_as::<B, S, Form<'_>, Output<W>>(alloc, walk, boxes, form, told, output)
 }

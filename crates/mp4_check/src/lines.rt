@@ -4,11 +4,13 @@ ghost use Rattle.std.specs.Prelude.{◌≡◌, [], ◌∷◌, ◌++◌, codes, d
 ghost use Rattle.mp4_check.specs.FaultValues.{value_of, values_of};
 ghost use Rattle.mp4_check.specs.Lines.{IsLine, IsObject, IsShown, Writes, between, fault_tokens, place_tokens};
 ghost use Rattle.mp4_check.specs.Lines.{front_text, line_text, position_member, severity_text, text_member, told_after};
+ghost use Rattle.mp4_check.specs.LinesLaws.{writes_more, writes_none};
 ghost use Rattle.mp4_check.specs.declared.lines.Told.{Told};
 ghost use Rattle.mp4_check.specs.declared.lines.Form.TheVariants as forms;
 ghost use Rattle.mp4_shown_json.specs.Tokens.{Puts};
 
 use crate::fault::{Fault, Severity};
+use crate::fault_form::FaultForm;
 use crate::path::Part;
 use crate::words::words_of;
 use mp4_content::or_memory;
@@ -57,8 +59,8 @@ fn push_path(path: &[Part], out: &mut String) -> Result<()> {
     Ok(())
 }
 
-/// Returns the text of a path.
-fn path_text(alloc: Global, path: &[Part]) -> Result<String> {
+/// Returns the text of a path, such as `moov/trak[1]/tkhd`.
+pub fn path_text(alloc: Global, path: &[Part]) -> Result<String> {
     let mut text = String::new(alloc);
     push_path(path, &mut text)?;
     Ok(text)
@@ -239,20 +241,39 @@ fn write_fault<W: Write>(
     Ok(told_after(told, fault.what.code().severity()))
 }
 
-/// Writes `faults`, in order. Returns what was written, with them.
-pub fn write_all_faults<W: Write>(
+impl<W: Write> FaultForm<Output<W>> for Form<'_> {
+    ghost writes = { λ form told vs old new now.
+        Writes form told vs (W.contents old.inner) (W.contents new.inner) now };
+
+    ghost writes_none = { λ form told output. writes_none form told (W.contents output.inner) };
+
+    ghost writes_more = { λ form told between now vs ws a b c. writes_more form told between now vs ws
+        (W.contents a.inner) (W.contents b.inner) (W.contents c.inner) };
+
+    fn write(
+        &self,
+        alloc: Global,
+        fault: &Fault,
+        told: Told,
+        output: &mut Output<W>,
+    ) -> std::result::Result<Told, Failure> {
+        write_fault(alloc, fault, *self, told, output)
+    }
+}
+
+/// Writes `faults` in the form `form`, in order. Returns what was written, with them.
+pub fn write_all_faults<F: FaultForm<O>, O>(
     alloc: Global,
     faults: &[Fault],
-    form: Form<'_>,
+    form: F,
     told: Told,
-    output: &mut Output<W>,
+    output: &mut O,
 ) -> std::result::Result<Told, Failure>
-    ensures { IfOk result (λ now. Writes form.entry told (values_of faults.now)
-        (W.contents output.old.inner) (W.contents output.new.inner) now) }
+    ensures { IfOk result (λ now. F.writes form told (values_of faults.now) output.old output.new now) }
 {
     let mut written = told;
     for fault in faults {
-        let more = write_fault(alloc, fault, form, written, output)?;
+        let more = form.write(alloc, fault, written, output)?;
         written = more;
     }
     Ok(written)

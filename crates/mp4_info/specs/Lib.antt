@@ -20,6 +20,7 @@ pub mod Channels
 pub mod Found
 pub mod Codecs
 pub mod Headers
+pub mod Kinds
 pub mod Entries
 pub mod Facts
 pub mod Tags

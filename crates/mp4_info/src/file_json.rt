@@ -6,11 +6,12 @@ use crate::durations::{Duration, whole_duration};
 use crate::entry::{Entry, Protection, is_encrypted};
 use crate::facts::{FileFacts, FragmentTime, SampleFacts, TrackFacts, longest};
 use crate::headers::{Headers, language, timescale_of, turn};
+use crate::kinds::kind_of;
 use crate::picture::Picture;
 use crate::rates::FrameRate;
 use crate::sound::Sound;
 use crate::tags::Tag;
-use crate::words::{are_chapters, kind_of, push_thousandths, range_of, text_of};
+use crate::words::{are_chapters, push_thousandths, range_of, text_of};
 use mp4_extra_media::colr::Nclx;
 use mp4_extra_segments::sidx::SidxBox;
 use mp4_extra_segments::tref::TrackReference;
@@ -258,6 +259,15 @@ fn put_entry(alloc: Global, entry: &Option<Entry>, sink: &mut JsonSink) -> Resul
     }
 }
 
+/// Writes the kind of media with this handler, or `null` if it has no word.
+fn put_kind(handler: u32, sink: &mut JsonSink) -> Result<()> {
+    let word = kind_of(handler);
+    if word.is_empty() {
+        return put_null("kind", sink);
+    }
+    put_text("kind", word, sink)
+}
+
 /// Writes the headers of a track.
 fn put_headers(tracks: &[TrackFacts], facts: &TrackFacts, sink: &mut JsonSink) -> Result<()> {
     match &facts.headers.track {
@@ -267,7 +277,7 @@ fn put_headers(tracks: &[TrackFacts], facts: &TrackFacts, sink: &mut JsonSink) -
     match &facts.headers.handler {
         Some(handler) => {
             put_code("handler", handler.handler_type, sink)?;
-            put_text_if("kind", kind_of(u32::from(handler.handler_type)), sink)?;
+            put_kind(u32::from(handler.handler_type), sink)?;
         }
         None => {
             put_null("handler", sink)?;

@@ -16,6 +16,7 @@ mod file_json;
 mod found;
 mod headers;
 mod hevc;
+mod kinds;
 mod languages;
 mod mpeg4;
 mod picture;
@@ -49,6 +50,7 @@ pub use headers::{
     HeaderBoxes, Headers, ReadsHeaders, headers_in, id_of, language, timescale_of, turn,
 };
 pub use hevc::push_hevc;
+pub use kinds::kind_of;
 pub use languages::language_of;
 pub use mpeg4::{push_mpeg4, push_mpeg4_audio, push_mpeg4_video};
 pub use picture::{Picture, Size};

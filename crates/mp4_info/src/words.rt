@@ -6,28 +6,16 @@ use crate::durations::Duration;
 use crate::entry::Entry;
 use crate::facts::{SampleFacts, TrackFacts};
 use crate::headers::{Headers, language, turn};
+use crate::kinds::kind_of;
 use crate::picture::Picture;
 use crate::rates::FrameRate;
 use crate::sound::Sound;
 use crate::tags::Tag;
 use mp4_extra_media::colr::ColrBox;
 use mp4_frame::FourCC;
-use mp4_frame::codes::{AUXV, META, PICT, SOUN, TEXT, TMCD, VIDE};
 use mp4_show::{push_code, push_escaped, push_number};
 use mp4_shown::Result;
 use std::alloc::Global;
-
-/// The handler of subtitles: `subt`.
-const SUBT: u32 = 0x7375_6274;
-
-/// The handler of subtitles in Apple's files: `sbtl`.
-const SBTL: u32 = 0x7362_746c;
-
-/// The handler of closed captions: `clcp`.
-const CLCP: u32 = 0x636c_6370;
-
-/// The handler of hint tracks: `hint`.
-const HINT: u32 = 0x6869_6e74;
 
 /// The type of a reference to chapters: `chap`.
 const CHAP: u32 = 0x6368_6170;
@@ -75,23 +63,6 @@ pub(crate) fn push_thousands(number: u128, out: &mut String) -> Result<()> {
     push_large(number / 1000 + more, out)
 }
 
-/// Returns the word for media with this handler, if there is one.
-pub(crate) fn kind_of(handler: u32) -> Option<&'static str> {
-    match handler {
-        VIDE => Some("video"),
-        SOUN => Some("audio"),
-        SUBT | SBTL => Some("subtitles"),
-        TEXT => Some("text"),
-        CLCP => Some("captions"),
-        TMCD => Some("timecode"),
-        META => Some("metadata"),
-        HINT => Some("hint"),
-        AUXV => Some("auxiliary video"),
-        PICT => Some("picture"),
-        _ => None,
-    }
-}
-
 /// Returns whether the track `facts` refers to the track with this track_ID for its chapters.
 fn has_chapters(facts: &TrackFacts, id: u32) -> bool {
     let Some(references) = &facts.headers.references else {
@@ -135,10 +106,11 @@ pub(crate) fn push_kind(
     let Some(handler) = &facts.headers.handler else {
         return out.push_str("-");
     };
-    match kind_of(u32::from(handler.handler_type)) {
-        Some(word) => out.push_str(word),
-        None => push_code(handler.handler_type, out),
+    let word = kind_of(u32::from(handler.handler_type));
+    if word.is_empty() {
+        return push_code(handler.handler_type, out);
     }
+    out.push_str(word)
 }
 
 /// Appends the codec of an entry, and the scheme of its encryption.

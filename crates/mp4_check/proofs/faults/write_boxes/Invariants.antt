@@ -11,8 +11,8 @@ invariant-boxes g l = record {
   kept : l.walk ≡ l.fn.walk;
   opened : AreOpen (fold entered [] (take l.index l.boxes)) l.paths.levels.items;
   so_far : IfSome l.fn.walk.bytes (λ file.
-      WritesFirst l.form l.fn.told
+      WritesFirst (g.F.FaultForm.writes l.form) l.fn.told
       (faults_of_boxes g.B.Shown.known g.B.Shown.named_reading file [] l.boxes)
       (faults_of_boxes g.B.Shown.known g.B.Shown.named_reading file (take l.index l.boxes) (drop l.index l.boxes))
-      (g.W.Write.contents l.fn.output.inner) (g.W.Write.contents l.output.inner) l.written);
+      l.fn.output l.output l.written);
 }

@@ -4,7 +4,7 @@ use Rattle.mp4_check.specs.Paths.{next}
 use Rattle.mp4_check.specs.contracts.indexes.OwnReadingIndexReading.TheImpl as own
 use Rattle.mp4_check.proofs.FaultLoops.{indexes_next, indexes_written}
 use Rattle.mp4_check.proofs.Outcomes.{if_is, some_at}
-use Rattle.mp4_check.proofs.ShownFaults.{first_none}
+use Rattle.mp4_check.proofs.ShownFaults.{first_none, form_laws}
 use Rattle.mp4_check.proofs.faults.write_each_index.Goals as goal
 use Rattle.mp4_frame.specs.FourCC.{four_cc_of}
 use Rattle.mp4_frame.specs.declared.codes.TheConstants as names
@@ -15,10 +15,11 @@ pub indexes-init : goal.indexes-init
 indexes-init g c = record {
   kept = refl;
   so_far = if_is c.args.walk.now.bytes (λ file known.
-      first_none c.args.form c.args.told
+      first_none (g.F.FaultForm.writes c.args.form)
+      (form_laws g.F.FaultForm.writes g.F.FaultForm.writes_none g.F.FaultForm.writes_more c.args.form) c.args.told
       (faults_of_indexes (own.ghosts).reads file c.args.boxes.now (length file) 0
       (all_in 0 (four_cc_of names.SIDX) c.args.boxes.now))
-      (g.W.Write.contents c.args.output.now.inner));
+      c.args.output.now);
 }
 
 pub indexes-preserved : goal.indexes-preserved
@@ -36,11 +37,13 @@ indexes-preserved g c =
           let size : c.file_length-size.result ≡ length file =
           some_at c.args.walk.now.bytes file _ known c.file_length-size.ensures in
           let are = subst (λ (n : ℕ). AreStarts boxes n c.in_ok-starts.starts) size starts in
-          indexes_next (own.ghosts).reads file c.args.form c.args.told l.written c.in_ok-more.more boxes (length file)
+          indexes_next (g.F.FaultForm.writes c.args.form)
+          (form_laws g.F.FaultForm.writes g.F.FaultForm.writes_none g.F.FaultForm.writes_more c.args.form)
+          (own.ghosts).reads file c.args.told l.written c.in_ok-more.more boxes (length file)
           (faults_of_indexes (own.ghosts).reads file boxes (length file) 0 (all_in 0 (four_cc_of names.SIDX) boxes))
           l.rest.now l.number c.saturating_add-number.result f _
-          (g.W.Write.contents c.args.output.now.inner) (g.W.Write.contents l.output.inner)
-          (g.W.Write.contents c.write_all_faults.new.output.inner) c.in-Some.ensures.first number
+          c.args.output.now l.output
+          c.write_all_faults.new.output c.in-Some.ensures.first number
           (some_at c.args.walk.now.bytes file _ known l.invariant.so_far)
           (some_at l.walk.bytes file _ here c.in_ok-faults.ensures.value boxes (length file) are)
           (rw c.deref.ensures.value at c.in_ok-more.ensures));
@@ -51,7 +54,7 @@ returns-clause-value g c =
     let l = c.indexes in
     let boxes = c.args.boxes.now in
     if_is c.args.walk.now.bytes (λ file known.
-    indexes_written (own.ghosts).reads file c.args.form c.args.told l.written boxes (length file)
+    indexes_written (g.F.FaultForm.writes c.args.form) (own.ghosts).reads file c.args.told l.written boxes (length file)
     (faults_of_indexes (own.ghosts).reads file boxes (length file) 0 (all_in 0 (four_cc_of names.SIDX) boxes))
-    l.rest.now l.number (g.W.Write.contents c.args.output.now.inner) (g.W.Write.contents l.output.inner)
+    l.rest.now l.number c.args.output.now l.output
     c.in_default.ensures.first (some_at c.args.walk.now.bytes file _ known l.invariant.so_far))

@@ -13,12 +13,12 @@ abbrev pub invariant-indexes : goal.invariant-indexes
 invariant-indexes g l = record {
   kept : l.walk ≡ l.fn.walk;
   so_far : IfSome l.fn.walk.bytes (λ file.
-      WritesFirst l.form l.fn.told
+      WritesFirst (g.F.FaultForm.writes l.form) l.fn.told
       (faults_of_indexes (own.ghosts).reads file l.boxes (length file) 0
       (all_in 0 (four_cc_of names.SIDX) l.boxes))
       (faults_of_indexes (own.ghosts).reads file l.boxes (length file) l.number
       (all_in 0 (four_cc_of names.SIDX) l.rest))
-      (g.W.Write.contents l.fn.output.inner) (g.W.Write.contents l.output.inner) l.written);
+      l.fn.output l.output l.written);
 }
 
 abbrev pub decreases-indexes : goal.decreases-indexes

@@ -2,6 +2,7 @@ use Rattle.std.proofs.Common.{◌≡◌, ◌∙◌, Some, ap, arith, refl}
 use Rattle.mp4_check.specs.FragmentFaults.{found_at}
 use Rattle.mp4_check.specs.Paths.{next}
 use Rattle.mp4_check.proofs.FaultLoops.{moofs_next, moofs_none, moofs_written}
+use Rattle.mp4_check.proofs.ShownFaults.{form_laws}
 use Rattle.mp4_check.proofs.faults.write_fragments.Goals as goal
 use Rattle.mp4_walk.specs.Walk.{Walk}
 
@@ -9,8 +10,10 @@ pub moofs-init : goal.moofs-init
 moofs-init g c = record {
   kept = refl;
   so_far = λ f bytes same facts.
-      moofs_none f c.args.form c.args.told c.args.boxes.now c.new-going.result
-      (g.W.Write.contents c.args.output.now.inner) same c.new-going.ensures;
+      moofs_none (g.F.FaultForm.writes c.args.form)
+      (form_laws g.F.FaultForm.writes g.F.FaultForm.writes_none g.F.FaultForm.writes_more c.args.form) f c.args.told
+      c.args.boxes.now c.new-going.result
+      c.args.output.now same c.new-going.ensures;
 }
 
 pub moofs-preserved : goal.moofs-preserved
@@ -22,9 +25,11 @@ moofs-preserved g c =
       so_far = λ f bytes same facts.
           let here : l.walk.bytes ≡ Some f.bytes = ap (λ (w : Walk). w.bytes) l.invariant.kept ∙ bytes in
           let before = l.invariant.so_far f bytes same facts in
-          moofs_next f c.args.form c.args.told l.written c.in_ok-more.more l.number c.saturating_add-number.result
-          l.rest.now l.going c.write_moof.new.going (g.W.Write.contents c.args.output.now.inner)
-          (g.W.Write.contents l.output.inner) (g.W.Write.contents c.write_moof.new.output.inner)
+          moofs_next (g.F.FaultForm.writes c.args.form)
+          (form_laws g.F.FaultForm.writes g.F.FaultForm.writes_none g.F.FaultForm.writes_more c.args.form) f c.args.told
+          l.written c.in_ok-more.more l.number c.saturating_add-number.result
+          l.rest.now l.going c.write_moof.new.going c.args.output.now
+          l.output c.write_moof.new.output
           (found_at c.in-Some.moof) c.in-Some.ensures.first number before
           (c.in_ok-more.ensures.going f before.times here facts before.going_is)
           (c.in_ok-more.ensures.value f before.times here facts before.going_is);
@@ -33,6 +38,6 @@ moofs-preserved g c =
 pub returns-clause-value : goal.returns-clause-value
 returns-clause-value g c = λ f bytes same facts.
     let l = c.moofs in
-    moofs_written f c.args.form c.args.told l.written l.number l.rest.now l.going
-    (g.W.Write.contents c.args.output.now.inner) (g.W.Write.contents l.output.inner) c.in_default.ensures.first
+    moofs_written (g.F.FaultForm.writes c.args.form) f c.args.told l.written l.number l.rest.now l.going
+    c.args.output.now l.output c.in_default.ensures.first
     (l.invariant.so_far f bytes same facts)

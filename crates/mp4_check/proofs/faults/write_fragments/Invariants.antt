@@ -8,8 +8,8 @@ abbrev pub invariant-moofs : goal.invariant-moofs
 invariant-moofs g l = record {
   kept : l.walk ≡ l.fn.walk;
   so_far : (f : File) → l.fn.walk.bytes ≡ Some f.bytes → f.boxes ≡ l.boxes → AreFacts f l.facts
-      → MoofsSoFar f l.form l.fn.told l.number l.rest l.going (g.W.Write.contents l.fn.output.inner)
-      (g.W.Write.contents l.output.inner) l.written;
+      → MoofsSoFar (g.F.FaultForm.writes l.form) f l.fn.told l.number l.rest l.going l.fn.output
+      l.output l.written;
 }
 
 abbrev pub decreases-moofs : goal.decreases-moofs

@@ -9,8 +9,9 @@ invariant-trafs g l = record {
   kept : l.walk ≡ l.fn.walk;
   so_far : (f : File) (times : Times) → l.fn.walk.bytes ≡ Some f.bytes → AreFacts f l.facts
       → IsGoing times l.fn.going.end l.fn.going
-      → TrafsSoFar f l.form l.fn.told (found_at l.fn.moof) l.fn.number times l.rest l.index l.going
-      (g.W.Write.contents l.fn.output.inner) (g.W.Write.contents l.output.inner) l.written;
+      → TrafsSoFar (g.F.FaultForm.writes l.form) f l.fn.told (found_at l.fn.moof) l.fn.number times l.rest l.index
+      l.going
+      l.fn.output l.output l.written;
 }
 
 abbrev pub decreases-trafs : goal.decreases-trafs

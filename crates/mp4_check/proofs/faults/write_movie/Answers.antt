@@ -5,6 +5,7 @@ use Rattle.mp4_check.specs.Faults.{facts_of}
 use Rattle.mp4_check.specs.TrackFaults.{Facts, IsMet, faults_of_tracks, longest_track, movie_faults, value_of_facts}
 use Rattle.mp4_check.proofs.FileSteps.{all_written}
 use Rattle.mp4_check.proofs.Outcomes.{always_ok, if_is, some_at}
+use Rattle.mp4_check.proofs.ShownFaults.{form_laws}
 use Rattle.mp4_check.proofs.faults.write_movie.Goals as goal
 use Rattle.mp4_frame.specs.FourCC.{four_cc_of}
 use Rattle.mp4_frame.specs.declared.codes.TheConstants as names
@@ -30,11 +31,13 @@ returns-clause-value g c =
     let given = rw c.in_ok-faults.ensures.ok at c.movie_faults.ensures in
     let longest : c.write_tracks.new.met.longest ≡ longest_track file (traks boxes) =
     stored.longest_is ∙ ap (λ (bs : List TreeBox). longest_track file (all_in 1 code bs)) c.movie_in-movie.ensures in
-    all_written c.args.form c.args.told c.in_ok-tracks.tracks c.write_all_faults.result
+    all_written (g.F.FaultForm.writes c.args.form)
+    (form_laws g.F.FaultForm.writes g.F.FaultForm.writes_none g.F.FaultForm.writes_more c.args.form) c.args.told
+    c.in_ok-tracks.tracks c.write_all_faults.result
     (faults_of_tracks file all [] 0 (traks boxes)) (movie_faults all (longest_track file (traks boxes)))
     (faults_of_tracks file facts [] 0 (all_in 1 code movie)) (values_of c.in_ok-faults.faults.items)
-    (g.W.Write.contents c.args.output.now.inner) (g.W.Write.contents c.write_tracks.new.output.inner)
-    (g.W.Write.contents c.write_all_faults.new.output.inner)
+    c.args.output.now c.write_tracks.new.output
+    c.write_all_faults.new.output
     (ap (λ (x : Facts). faults_of_tracks file x [] 0 (all_in 1 code movie)) same
     ∙ ap (λ (bs : List TreeBox). faults_of_tracks file all [] 0 (all_in 1 code bs)) c.movie_in-movie.ensures)
     (given ∙ ap (λ (x : Facts). movie_faults x c.write_tracks.new.met.longest) same

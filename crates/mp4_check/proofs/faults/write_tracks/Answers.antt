@@ -3,6 +3,7 @@ use Rattle.mp4_check.specs.Paths.{next}
 use Rattle.mp4_check.specs.TrackFaults.{value_of_facts}
 use Rattle.mp4_check.proofs.FaultLoops.{tracks_next, tracks_none, tracks_stored, tracks_written}
 use Rattle.mp4_check.proofs.Outcomes.{if_is, some_at}
+use Rattle.mp4_check.proofs.ShownFaults.{form_laws}
 use Rattle.mp4_check.proofs.faults.write_tracks.Goals as goal
 use Rattle.mp4_movie.specs.Levels.{Found}
 use Rattle.mp4_walk.specs.Walk.{Walk}
@@ -11,8 +12,10 @@ pub tracks-init : goal.tracks-init
 tracks-init g c = record {
   kept = refl;
   so_far = if_is c.args.walk.now.bytes (λ file known. λ none.
-      tracks_none file (value_of_facts c.args.facts.now) c.args.form c.args.told c.args.movie.now c.args.met.now
-      (g.W.Write.contents c.args.output.now.inner) none);
+      tracks_none (g.F.FaultForm.writes c.args.form)
+      (form_laws g.F.FaultForm.writes g.F.FaultForm.writes_none g.F.FaultForm.writes_more c.args.form) file
+      (value_of_facts c.args.facts.now) c.args.told c.args.movie.now c.args.met.now
+      c.args.output.now none);
 }
 
 pub tracks-preserved : goal.tracks-preserved
@@ -25,10 +28,12 @@ tracks-preserved g c =
       so_far = if_is c.args.walk.now.bytes (λ file known. λ none.
           let here : l.walk.bytes ≡ Some file = ap (λ (w : Walk). w.bytes) l.invariant.kept ∙ known in
           let before = some_at c.args.walk.now.bytes file _ known l.invariant.so_far none in
-          tracks_next file (value_of_facts c.args.facts.now) c.args.form c.args.told l.written c.in_ok-more.more
+          tracks_next (g.F.FaultForm.writes c.args.form)
+          (form_laws g.F.FaultForm.writes g.F.FaultForm.writes_none g.F.FaultForm.writes_more c.args.form) file
+          (value_of_facts c.args.facts.now) c.args.told l.written c.in_ok-more.more
           c.args.movie.now l.rest.now l.number c.saturating_add-number.result l.met c.track_faults.new.met
-          (g.W.Write.contents c.args.output.now.inner) (g.W.Write.contents l.output.inner)
-          (g.W.Write.contents c.write_all_faults.new.output.inner) f _ c.in-Some.ensures.first number before
+          c.args.output.now l.output
+          c.write_all_faults.new.output f _ c.in-Some.ensures.first number before
           (some_at l.walk.bytes file _ here c.in_ok-faults.ensures.value before.earlier before.stored)
           (some_at l.walk.bytes file _ here c.in_ok-faults.ensures.met before.earlier f refl before.stored)
           (rw c.deref.ensures.value at c.in_ok-more.ensures));
@@ -38,14 +43,16 @@ pub returns-clause-value : goal.returns-clause-value
 returns-clause-value g c =
     let l = c.tracks in
     if_is c.args.walk.now.bytes (λ file known. λ none.
-    tracks_written file (value_of_facts c.args.facts.now) c.args.form c.args.told l.written c.args.movie.now l.rest.now
-    l.number l.met (g.W.Write.contents c.args.output.now.inner) (g.W.Write.contents l.output.inner)
+    tracks_written (g.F.FaultForm.writes c.args.form) file (value_of_facts c.args.facts.now) c.args.told l.written
+    c.args.movie.now l.rest.now
+    l.number l.met c.args.output.now l.output
     c.in_default.ensures.first (some_at c.args.walk.now.bytes file _ known l.invariant.so_far none))
 
 pub returns-clause-met : goal.returns-clause-met
 returns-clause-met g c =
     let l = c.tracks in
     if_is c.args.walk.now.bytes (λ file known. λ none.
-    tracks_stored file (value_of_facts c.args.facts.now) c.args.form c.args.told l.written c.args.movie.now l.rest.now
-    l.number l.met (g.W.Write.contents c.args.output.now.inner) (g.W.Write.contents l.output.inner)
+    tracks_stored (g.F.FaultForm.writes c.args.form) file (value_of_facts c.args.facts.now) c.args.told l.written
+    c.args.movie.now l.rest.now
+    l.number l.met c.args.output.now l.output
     c.in_default.ensures.first (some_at c.args.walk.now.bytes file _ known l.invariant.so_far none))

@@ -9,8 +9,8 @@ abbrev pub invariant-tracks : goal.invariant-tracks
 invariant-tracks g l = record {
   kept : l.walk ≡ l.fn.walk;
   so_far : IfSome l.fn.walk.bytes (λ file. IsMet file [] l.fn.met
-      → TracksSoFar file (value_of_facts l.facts) l.form l.fn.told l.movie l.rest l.number l.met
-      (g.W.Write.contents l.fn.output.inner) (g.W.Write.contents l.output.inner) l.written);
+      → TracksSoFar (g.F.FaultForm.writes l.form) file (value_of_facts l.facts) l.fn.told l.movie l.rest l.number l.met
+      l.fn.output l.output l.written);
 }
 
 abbrev pub decreases-tracks : goal.decreases-tracks

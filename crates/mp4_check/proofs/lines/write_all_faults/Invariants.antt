@@ -6,5 +6,5 @@ use Rattle.mp4_check.proofs.lines.write_all_faults.Given as goal
 
 abbrev pub invariant-loop-fault : goal.invariant-loop-fault
 invariant-loop-fault g l =
-    Writes l.form l.fn.told (values_of (take l.fault-index l.faults)) (g.W.Write.contents l.fn.output.inner)
-    (g.W.Write.contents l.output.inner) l.written
+    g.F.FaultForm.writes l.form l.fn.told (values_of (take l.fault-index l.faults)) l.fn.output
+    l.output l.written
