@@ -10,11 +10,12 @@ _mp4inspect() {
         info) words="--json --recursive --help" ;;
         check) words="--json --strict --media --recursive --help" ;;
         get) words="--json --raw --content --field --color --help" ;;
+        diff) words="--offsets --json --help" ;;
         samples) words="--track --json --csv --beyond --seconds --edits --sync --segments --help" ;;
-        help) words="info check samples get" ;;
+        help) words="info check samples get diff" ;;
         *) words="--json --all --rows --wide --color --recursive --help --version" ;;
     esac
-    ((COMP_CWORD > 1)) || words="info check samples get help $words"
+    ((COMP_CWORD > 1)) || words="info check samples get diff help $words"
     mapfile -t COMPREPLY < <(
         compgen -W "$words" -- "$word"
         [[ $word == -* || ( $COMP_CWORD -gt 1 && $command == help ) ]] || compgen -f -- "$word"

@@ -1,6 +1,11 @@
+pub mod BoxPairs
 pub mod Boxes
+pub mod DiffSteps
+pub mod EqualBytes
 pub mod Json
+pub mod PairSteps
 pub mod PatternSteps
 pub mod PieceSteps
+pub mod RowSteps
 pub mod TreeSteps
 pub mod WholeJson

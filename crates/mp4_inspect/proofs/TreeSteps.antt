@@ -42,7 +42,7 @@ has_trees : (pattern : Pattern) (boxes : List TreeBox)
     → not (length (trees_at pattern boxes) == 0) ≡ not (length (boxes_at pattern boxes) == 0)
 has_trees pattern boxes = ap not (none_taken pattern [] boxes)
 
--- What was found, by the trees and by the boxes of the file.
+-- The trees at a pattern give the same result as the boxes at it.
 found_is : (pattern : Pattern) (file : List ℕ) (boxes shown : List TreeBox) (faulty : Bool) (got : Got)
     → boxes ≡ boxes_of file → shown ≡ trees_at pattern boxes → got ≡ got_of (not (length shown == 0)) faulty
     → got ≡ got_of (not (length (boxes_at pattern (boxes_of file)) == 0)) faulty

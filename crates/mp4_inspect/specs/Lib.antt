@@ -1,10 +1,15 @@
+pub mod BytesDiffer
 pub mod Checked
 pub mod Colors
+pub mod Differences
 pub mod Heading
 pub mod Json
 pub mod Listed
 pub mod Opened
 pub mod Outcome
+pub mod Pairs
 pub mod Patterns
+pub mod RowChanges
+pub mod Rows
 pub mod Trees
 pub mod Written

@@ -26,3 +26,7 @@ abbrev pub status_of : Outcome → ℕ
 status_of outcomes.Sound = 0
 status_of outcomes.Faulty = 1
 status_of outcomes.Failed = 3
+
+-- the exit status of the command `diff`: 1 if the files differ, and 0 if not. Any failure is 2
+abbrev pub diff_status : Bool → ℕ
+diff_status differ = if differ then 1 else 0

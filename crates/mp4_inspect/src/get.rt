@@ -25,7 +25,7 @@ use std::alloc::Global;
 use std::io::Write;
 
 /// The number of bytes that are read and written at a time.
-const PIECE: u64 = 1 << 20;
+pub const PIECE: u64 = 1 << 20;
 
 /// A form in which the boxes at a pattern are written.
 #[derive(Clone, Copy, Debug, PartialEq, Eq)]
@@ -118,7 +118,7 @@ fn write_pieces<S: Source, W: Write>(
 }
 
 /// Returns the position of the bytes of `found`, or of its content if `content`.
-fn start_of(found: &TreeBox, content: bool) -> u64
+pub fn start_of(found: &TreeBox, content: bool) -> u64
     ensures { result ≡ (if content then min (found.now.position + found.now.header_length) (2 ^ 64 - 1)
         else found.now.position) }
 {
@@ -130,7 +130,7 @@ fn start_of(found: &TreeBox, content: bool) -> u64
 }
 
 /// Returns the number of bytes of `found`, or of its content if `content`.
-fn size_of(found: &TreeBox, content: bool) -> u64
+pub fn size_of(found: &TreeBox, content: bool) -> u64
     ensures { result ≡ (if content then found.now.length - found.now.header_length else found.now.length) }
 {
     if content {
@@ -141,7 +141,8 @@ fn size_of(found: &TreeBox, content: bool) -> u64
 }
 
 /// Returns how many of `size` bytes that begin at `start` a source of `total` bytes has.
-fn present(start: u64, size: u64, total: u64) -> u64
+pub fn present(start: u64, size: u64, total: u64) -> u64
+    ensures count { result ≡ min size (total - start) }
     ensures fits { start + result < 2 ^ 64 }
     ensures bytes { (file : List ℕ) → total ≡ length file → piece file start result ≡ piece file start size }
 {

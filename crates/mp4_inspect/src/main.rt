@@ -1,21 +1,31 @@
 //! The program `mp4inspect` shows people what is in MP4 files: the tree of their boxes, as text or JSON, only their
-//! faults, their samples, or the boxes at a path.
+//! faults, their samples, the boxes at a path, or in what two files differ.
 #![tactic(auto)]
 
 ghost use Rattle.std.specs.Prelude.{◌≡◌};
 ghost use Rattle.mp4_inspect.specs.Colors.{has_color};
 
+mod bytes_differ;
+mod change_text;
 mod chosen;
+mod diff;
+mod differences;
 mod get;
+mod messages;
 mod outcome;
+mod pairs;
 mod pattern;
 mod program;
 mod request;
+mod row_changes;
+mod rows;
 mod source;
 mod tree_json;
 mod tree_text;
 
+use diff::run_diff;
 use get::{Get, Got, get_boxes};
+use messages::{refuse, tell};
 use mp4_command::{
     FileProgress, Kept, MISUSE, NOT_UTF_8, close_command, escaped, files_below, print_error,
     unreadable, words_of,
@@ -28,14 +38,14 @@ use mp4_walk::{PathError, Source};
 use outcome::{Outcome, is_silent};
 use pattern::Pattern;
 use program::{Show, check_file, inspect};
-use request::{COMMANDS, Color, Place, Request, Rows, Task, request_of};
+use request::{Asked, COMMANDS, Color, Place, Request, Rows, Task, request_of};
 use source::{Reading, how_to_read, input_file};
 use std::alloc::{AllocError, Global};
 use std::env::VarError;
 use std::fs::File;
 use std::io::{BufWriter, IsTerminal, Read, Write};
 use std::process::ExitCode;
-use std::{env, fs, io};
+use std::{env, fs};
 
 /// Returns the width of the terminal in `COLUMNS`, or the largest number if the variable is missing.
 fn width(rt: &HostRuntime) -> usize {
@@ -118,19 +128,6 @@ struct Named<'a> {
     get: Option<&'a Get>,
 }
 
-/// Prints to standard error why a file could not be read, with the system's reason if there is one. A failed write is
-/// not printed here, but once at the end.
-fn tell(rt: &HostRuntime, shown: &str, failure: Failure, reason: Option<io::Error>) {
-    let _ = match (failure, reason) {
-        (Failure::Write, _) => Ok(()),
-        (Failure::Read, Some(error)) if error.kind() == io::ErrorKind::UnexpectedEof => {
-            eprintln!(rt; "mp4inspect: {shown}: {failure}: it has fewer bytes than its length says")
-        }
-        (Failure::Read, Some(error)) => eprintln!(rt; "mp4inspect: {shown}: {failure}: {error}"),
-        _ => eprintln!(rt; "mp4inspect: {shown}: {failure}"),
-    };
-}
-
 /// Returns what is wrong with a directory that is read as a file, with the option that reads it.
 fn directory_fault(file: Named<'_>, task: Task) -> &'static str {
     if task == Task::Samples || file.get.is_some() {
@@ -138,12 +135,6 @@ fn directory_fault(file: Named<'_>, task: Task) -> &'static str {
     } else {
         "this is a directory, not a file; -r reads the files in it"
     }
-}
-
-/// Prints to standard error what is wrong with a file that is not read.
-fn refuse(rt: &HostRuntime, shown: &str, what: &str) -> Outcome {
-    let _ = eprintln!(rt; "mp4inspect: {shown}: {what}");
-    Outcome::Failed
 }
 
 /// Prints to standard error that a file has faults because of which values are not known.
@@ -512,7 +503,8 @@ fn run(rt: &HostRuntime) -> Result<u8, Failure> {
         return Ok(MISUSE);
     }
     match request_of(rt.alloc(), words.as_slice()) {
-        Ok(request) => run_spelt(rt, request),
+        Ok(Asked::Show(request)) => run_spelt(rt, request),
+        Ok(Asked::Diff(diff)) => Ok(run_diff(rt, &diff)),
         Err(error) => print_error(rt, &error),
     }
 }

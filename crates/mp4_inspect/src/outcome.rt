@@ -1,7 +1,7 @@
 //! The end of a run of the program.
 
 ghost use Rattle.std.specs.Prelude.{◌≡◌, max};
-ghost use Rattle.mp4_inspect.specs.Outcome.{outcome_of, outcome_of_failure, status_of, is_silent};
+ghost use Rattle.mp4_inspect.specs.Outcome.{diff_status, outcome_of, outcome_of_failure, status_of, is_silent};
 
 use mp4_io::Failure;
 
@@ -24,6 +24,13 @@ pub fn is_silent(failure: Failure, is_closed: bool) -> bool
         Failure::Write => is_closed,
         Failure::Read | Failure::Memory => false,
     }
+}
+
+/// Returns the exit status of the command `diff` from whether the files differ: 0 if not, and else 1.
+pub fn diff_status(differ: bool) -> u8
+    ensures { result ≡ diff_status differ }
+{
+    if differ { 1 } else { 0 }
 }
 
 impl Outcome {

@@ -62,7 +62,7 @@ pub enum Color {
 }
 
 /// The commands.
-pub const COMMANDS: &[&str] = &["info", "check", "samples", "get", "help"];
+pub const COMMANDS: &[&str] = &["info", "check", "samples", "get", "diff", "help"];
 /// The values of `--color`.
 const COLORS: &[&str] = &["always", "never", "auto"];
 
@@ -125,6 +125,28 @@ pub struct Request {
     pub recursive: bool,
     /// The boxes that the command `get` asks for; `None` for other commands.
     pub place: Option<Place>,
+}
+
+/// A request to compare two files.
+#[derive(Debug, Drop)]
+pub struct Diff {
+    /// The first file; `-` is the standard input. A name that is not UTF-8 has a mark.
+    pub first: String,
+    /// The second file, in the same form.
+    pub second: String,
+    /// True if offsets into the files are compared, too.
+    pub offsets: bool,
+    /// True for JSON.
+    pub json: bool,
+}
+
+/// A request that a command line makes.
+#[derive(Debug, Drop)]
+pub enum Asked {
+    /// To show files.
+    Show(Request),
+    /// To compare two files.
+    Diff(Diff),
 }
 
 /// Returns the argument for several files.
@@ -279,6 +301,25 @@ fn get<'a>(alloc: Global) -> Result<Command<'a>, AllocError> {
         .arg(path(alloc))
 }
 
+/// Returns the argument `name` for a file that is compared.
+fn compared<'a>(alloc: Global, name: &'a str, help: &'a str) -> Arg<'a> {
+    Arg::new(alloc, name).required(true).help(help)
+}
+
+/// Returns the command `diff`.
+fn diff_command<'a>(alloc: Global) -> Result<Command<'a>, AllocError> {
+    let json = "Print an array of JSON objects";
+    let offsets = "Compare also offsets into the files, such as chunk offsets";
+    let about =
+        "Print the boxes and fields in which two files differ; media data differ only by length";
+    Command::new(alloc, "diff")
+        .about(about)
+        .arg(flag(alloc, "json", json))?
+        .arg(flag(alloc, "offsets", offsets))?
+        .arg(compared(alloc, "A", "First file; - is the standard input"))?
+        .arg(compared(alloc, "B", "Second file; - is the standard input"))
+}
+
 /// Returns the command line without its commands.
 fn tree<'a>(alloc: Global) -> Result<Command<'a>, AllocError> {
     let all = "Show all entries of lists";
@@ -304,7 +345,8 @@ fn command<'a>(alloc: Global) -> Result<Command<'a>, AllocError> {
         .subcommand(info(alloc)?)?
         .subcommand(check(alloc)?)?
         .subcommand(samples(alloc)?)?
-        .subcommand(get(alloc)?)
+        .subcommand(get(alloc)?)?
+        .subcommand(diff_command(alloc)?)
 }
 
 /// Returns the names of the files in `matches`.
@@ -448,6 +490,16 @@ fn get_of(alloc: Global, matches: &ArgMatches<'_>) -> Result<Request, AllocError
     })
 }
 
+/// Returns the request of the command `diff`.
+fn diff_of(alloc: Global, matches: &ArgMatches<'_>) -> Result<Diff, AllocError> {
+    Ok(Diff {
+        first: text_of(alloc, matches, "A")?,
+        second: text_of(alloc, matches, "B")?,
+        offsets: matches.get_flag("offsets"),
+        json: matches.get_flag("json"),
+    })
+}
+
 /// Returns the request of a command line without a command: to show the trees of files.
 fn tree_of(alloc: Global, matches: &ArgMatches<'_>) -> Result<Request, AllocError> {
     let rows = if matches.get_flag("all") {
@@ -475,8 +527,8 @@ fn tree_of(alloc: Global, matches: &ArgMatches<'_>) -> Result<Request, AllocErro
     })
 }
 
-/// Returns the request in `matches`.
-fn asked(alloc: Global, matches: &ArgMatches<'_>) -> Result<Request, AllocError> {
+/// Returns the request to show files in `matches`.
+fn show_of(alloc: Global, matches: &ArgMatches<'_>) -> Result<Request, AllocError> {
     match matches.subcommand() {
         Some(("samples", inner)) => samples_of(alloc, inner),
         Some(("get", inner)) => get_of(alloc, inner),
@@ -488,7 +540,10 @@ fn asked(alloc: Global, matches: &ArgMatches<'_>) -> Result<Request, AllocError>
 
 /// Returns the request of a command line. The first of its `words` is the program's name. An error has the text to
 /// print and the status with which the program ends: for misuse, the help or the version.
-pub(crate) fn request_of(alloc: Global, words: &[String]) -> Result<Request, Error> {
+pub(crate) fn request_of(alloc: Global, words: &[String]) -> Result<Asked, Error> {
     let matches = command(alloc)?.try_get_matches_from(words)?;
-    Ok(asked(alloc, &matches)?)
+    match matches.subcommand() {
+        Some(("diff", inner)) => Ok(Asked::Diff(diff_of(alloc, inner)?)),
+        _ => Ok(Asked::Show(show_of(alloc, &matches)?)),
+    }
 }

@@ -26,6 +26,38 @@ impl Source for FileFrom {
     }
 }
 
+/// A file whose bytes are read at any position: an open one, or one that was read to its end.
+#[derive(Drop)]
+pub enum Opened {
+    /// A file.
+    File(File),
+    /// The standard input, starting at its position.
+    Input(FileFrom),
+    /// The bytes of a file.
+    Bytes(Vec<u8>),
+}
+
+impl Source for Opened {
+    fn length(&mut self) -> io::Result<u64> {
+        match self {
+            Opened::File(file) => file.length(),
+            Opened::Input(file) => file.length(),
+            Opened::Bytes(bytes) => Ok(bytes.len() as u64),
+        }
+    }
+
+    fn read_at(&mut self, at: u64, buffer: &mut [u8]) -> io::Result<()> {
+        match self {
+            Opened::File(file) => file.read_at(at, buffer),
+            Opened::Input(file) => file.read_at(at, buffer),
+            Opened::Bytes(bytes) => {
+                let mut all = bytes.as_slice();
+                all.read_at(at, buffer)
+            }
+        }
+    }
+}
+
 /// Returns the position of an open file that the line `pos:` of `text` holds.
 fn position_in(text: &str) -> Option<u64> {
     for line in text.split('\n') {
