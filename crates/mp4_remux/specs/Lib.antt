@@ -22,3 +22,4 @@ pub mod Splices
 pub mod Spots
 pub mod Edits
 pub mod Shortcuts
+pub mod Tags

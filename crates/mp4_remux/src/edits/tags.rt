@@ -1,5 +1,8 @@
 //! Shortcuts for tags, which are those of iTunes: items of an `ilst` in `moov/udta/meta`.
 
+ghost use Rattle.std.specs.Prelude.{◌≡◌, IfOk, option_map};
+ghost use Rattle.mp4_remux.specs.Tags.{cover_box, data_box};
+
 use crate::edits::boxed::boxed;
 use crate::edits::edit::{Edit, Parent};
 use crate::edits::opened::{Opened, path_of};
@@ -38,7 +41,9 @@ pub struct Tag {
 }
 
 /// Returns a `data` with a value of this type, for all countries and languages.
-fn data_of(alloc: Global, kind: u32, value: &[u8]) -> Result<Vec<u8>, AllocError> {
+fn data_of(alloc: Global, kind: u32, value: &[u8]) -> Result<Vec<u8>, AllocError>
+    ensures { IfOk result (λ bytes. bytes.items ≡ data_box kind value.now) }
+{
     let mut content = Vec::new(alloc);
     content.extend_from_slice(&kind.to_be_bytes())?;
     content.extend_from_slice(&[0, 0, 0, 0])?;
@@ -47,12 +52,16 @@ fn data_of(alloc: Global, kind: u32, value: &[u8]) -> Result<Vec<u8>, AllocError
 }
 
 /// Returns a `data` that is a text.
-pub fn text_data(alloc: Global, text: &str) -> Result<Vec<u8>, AllocError> {
+pub fn text_data(alloc: Global, text: &str) -> Result<Vec<u8>, AllocError>
+    ensures { IfOk result (λ bytes. bytes.items ≡ data_box 1 text.now) }
+{
     data_of(alloc, UTF_8, text.as_bytes())
 }
 
 /// Returns a `data` that is a picture, or `None` if `picture` is neither JPEG nor PNG.
-pub fn cover_data(alloc: Global, picture: &[u8]) -> Result<Option<Vec<u8>>, AllocError> {
+pub fn cover_data(alloc: Global, picture: &[u8]) -> Result<Option<Vec<u8>>, AllocError>
+    ensures { IfOk result (λ found. option_map (λ bytes. bytes.items) found ≡ cover_box picture.now) }
+{
     let kind = if picture.starts_with(&JPEG_BEGIN) {
         JPEG
     } else if picture.starts_with(&PNG_BEGIN) {

@@ -1,5 +1,9 @@
 //! Shortcuts for tracks.
 
+ghost use Rattle.std.specs.Prelude.{◌≡◌, ◌≤◌, ◌-◌};
+ghost use Rattle.std.specs.List.{list_all};
+ghost use Rattle.mp4_remux.specs.Tags.{is_letter, packed_language};
+
 use crate::edits::edit::Edit;
 use crate::edits::finding::box_at;
 use crate::edits::opened::{Opened, path_of};
@@ -95,22 +99,38 @@ pub(crate) fn add_patched(patched: Vec<Patched>, edits: &mut Vec<Edit>) -> Resul
     Ok(())
 }
 
+/// Returns whether `byte` is a lower-case letter.
+fn is_letter(byte: u8) -> bool
+    ensures { result ≡ is_letter byte }
+{
+    byte >= b'a' && byte <= b'z'
+}
+
+/// Returns whether `bytes` are lower-case letters.
+fn are_letters(bytes: &[u8]) -> bool
+    ensures { result ≡ list_all is_letter bytes.now }
+{
+    bytes.iter().all(|byte| is_letter(*byte))
+}
+
+/// Returns the number of a letter, which is 1 for `a`.
+fn letter_number(letter: u8) -> u16
+    ensures value { result ≡ letter - 0x60 }
+    ensures small { result ≤ 0x9f }
+{
+    u16::from(letter.saturating_sub(0x60))
+}
+
 /// Returns the language `text` as an `mdhd` has it: three lower-case letters of ISO 639-2 of five bits each
 /// (ISO/IEC 14496-12, 8.4.2.3). Returns `None` if it is something else.
-pub fn packed_language(text: &str) -> Option<u16> {
-    let mut packed: u16 = 0;
+pub fn packed_language(text: &str) -> Option<u16>
+    ensures { result ≡ packed_language text.now }
+{
     let bytes = text.as_bytes();
-    if bytes.len() != 3 {
+    if bytes.len() != 3 || !are_letters(bytes) {
         return None;
     }
-    for byte in bytes {
-        let letter = *byte;
-        if letter < b'a' || letter > b'z' {
-            return None;
-        }
-        packed = (packed & 0x03ff) << 5 | u16::from(letter - 0x60);
-    }
-    Some(packed)
+    Some(letter_number(bytes[0]) * 1024 + letter_number(bytes[1]) * 32 + letter_number(bytes[2]))
 }
 
 /// Gives the track with this track_ID a language: in its `mdhd`. An `elng`, which would be another one (8.4.6), is
