@@ -1,0 +1,5 @@
+//! Mini.
+#![tactic(auto)]
+
+pub mod lines;
+pub mod path;
