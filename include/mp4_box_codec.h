@@ -662,8 +662,8 @@ enum {
     MP4_MOOV_LAST = 2      /* it is after the first mdat */
 };
 
-/* What a file is. The counts are those of three arrays: its brands, of which the major brand is the first, its tracks,
-   and the bytes of their texts. */
+/* The facts of a file. The counts are those of three arrays: its brands, of which the major brand is the first, its
+   tracks, and the bytes of their texts. */
 struct mp4_file_info {
     size_t brand_count;
     size_t track_count;

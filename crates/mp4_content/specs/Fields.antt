@@ -14,7 +14,7 @@ use Rattle.mp4_content.specs.declared.kind.Kind.TheVariants as kinds
 abbrev pub has_version : Bool → List ℕ → Bool
 has_version quicktime xs = quicktime && nat_lt 0 (uint xs 8 2)
 
--- fields that take so many bytes, and none if there are fewer
+-- fields that take `least` bytes, and none if there are fewer
 abbrev pub fields_if : ℕ → List ℕ → List Event → List Event
 fields_if least xs es = if nat_le least (length xs) then es else []
 

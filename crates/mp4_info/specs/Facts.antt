@@ -1,4 +1,4 @@
--- What is known of a file and of its tracks. Sections are those of ISO/IEC 14496-12.
+-- The facts of a file and of its tracks. Sections are those of ISO/IEC 14496-12.
 use Rattle.std.specs.Prelude.{◌≡◌, ℕ, ◌==◌, ◌&&◌, ◌||◌, nat_lt, not, true, Bool, List, [], ◌∷◌, length, map, max}
 use Rattle.std.specs.Prelude.{Result, Ok, Err, None, Some, if◌then◌else◌}
 use Rattle.std.specs.Option.{is_some}

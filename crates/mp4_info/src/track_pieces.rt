@@ -27,7 +27,7 @@ pub struct TrackPieces {
 /// The fragments of all tracks.
 #[derive(Debug, Drop)]
 pub struct AllPieces {
-    /// Those of each track that has some, by its track_ID.
+    /// The fragments of each track that has fragments, by its track_ID.
     pub by_track: BTreeMap<u32, TrackPieces>,
 }
 

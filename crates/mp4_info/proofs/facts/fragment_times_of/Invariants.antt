@@ -1,4 +1,4 @@
--- The moofs from the index on are still to be appended.
+-- The moofs starting at the index are still to be appended.
 use Rattle.std.proofs.Common.{◌≡◌, ◌++◌, drop, map}
 use Rattle.mp4_info.specs.Facts.{fragment_time}
 use Rattle.mp4_info.proofs.facts.fragment_times_of.Given as goal

@@ -1,4 +1,4 @@
--- The largest so far, or that of the tracks from the index on, is the largest of all.
+-- The largest of the tracks before the index, or that of the others, is the largest of all.
 use Rattle.std.proofs.Common.{◌≡◌, drop}
 use Rattle.std.specs.Prelude.{max}
 use Rattle.mp4_info.specs.Facts.{longest}

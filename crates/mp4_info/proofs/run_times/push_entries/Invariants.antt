@@ -1,4 +1,4 @@
--- The entries from the index on are still to be appended.
+-- The entries starting at the index are still to be appended.
 use Rattle.std.proofs.Common.{◌≡◌, ◌++◌, drop}
 use Rattle.std.specs.Prelude.{filter}
 use Rattle.mp4_info.specs.RunTimes.{counts}

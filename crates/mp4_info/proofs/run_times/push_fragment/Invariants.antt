@@ -1,4 +1,4 @@
--- The runs from the index on are still to be appended.
+-- The runs starting at the index are still to be appended.
 use Rattle.std.proofs.Common.{◌≡◌, ◌++◌, drop}
 use Rattle.std.specs.Prelude.{flat_map}
 use Rattle.mp4_info.specs.RunTimes.{run_times}

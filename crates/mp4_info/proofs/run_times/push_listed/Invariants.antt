@@ -1,4 +1,4 @@
--- The durations from the index on are still to be appended.
+-- The durations starting at the index are still to be appended.
 use Rattle.std.proofs.Common.{◌≡◌, ◌++◌, drop, map}
 use Rattle.mp4_info.specs.RunTimes.{single}
 use Rattle.mp4_info.proofs.run_times.push_listed.Given as goal

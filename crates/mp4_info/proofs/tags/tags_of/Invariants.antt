@@ -1,4 +1,4 @@
--- The tags in the list, followed by those of the items from the index on, are all tags.
+-- The tags in the list, followed by those of the items starting at the index, are all tags.
 use Rattle.std.proofs.Common.{◌≡◌, ◌++◌, drop}
 use Rattle.std.specs.Prelude.{IfSome}
 use Rattle.mp4_info.specs.Tags.{tags_of}

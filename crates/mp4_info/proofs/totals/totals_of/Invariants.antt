@@ -1,4 +1,4 @@
--- The fragments from the index on lead from the totals so far to those of the track.
+-- The fragments starting at the index lead from the present totals to those of the track.
 use Rattle.std.proofs.Common.{◌≡◌, drop}
 use Rattle.mp4_info.specs.Totals.{totals_of, with_pieces}
 use Rattle.mp4_info.proofs.totals.totals_of.Given as goal

@@ -1,4 +1,4 @@
--- The runs from the index on lead from the totals so far to those of all runs.
+-- The runs starting at the index lead from the present totals to those of all runs.
 use Rattle.std.proofs.Common.{◌≡◌, drop}
 use Rattle.mp4_info.specs.Totals.{with_runs}
 use Rattle.mp4_info.proofs.totals.with_runs.Given as goal

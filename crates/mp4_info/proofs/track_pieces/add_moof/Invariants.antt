@@ -1,4 +1,4 @@
--- The fragments from the index on are still to be added.
+-- The fragments starting at the index are still to be added.
 use Rattle.std.proofs.Common.{◌≡◌, ◌++◌, ℕ, drop}
 use Rattle.std.specs.BTreeMap.{get}
 use Rattle.std.specs.Ordering.{nat_cmp}
