@@ -662,6 +662,14 @@ def sets():
             found.append((f"sets: {code.decode()}, {name}", data, [
                 line(data, b"avcC", f"{STBL}/stsd/{code.decode()}/avcC",
                      "there is no sequence parameter set or no picture parameter set")] if is_wrong else []))
+    # The sets are read even where the extension after them has a fault: a set of 5 bytes, of which none is there.
+    faulty = box(b"avcC", bytes([1, 100, 0, 30, 0xFF, 0xE1, 0, 1]) + b"g" + bytes([0, 0xFD, 0xF8, 0xF8, 1, 0, 5]))
+    grown = stbl([MEDIA], [1]).replace(stsd(old), stsd(visual(b"avc1", 64, 48, b"", faulty)))
+    data = front() + moov(trak(be(4, len(grown)) + grown[4:]))
+    found.append(("sets: no pps before a faulty extension", data, [
+        line(data, b"avcC", f"{STBL}/stsd/avc1/avcC", said)
+        for said in ("count indicates more bytes than could fit in the box",
+                     "there is no sequence parameter set or no picture parameter set")]))
     return found
 
 

@@ -3,7 +3,9 @@ with. `faults` gives them in their order, and `lines` their lines. `media.py` ha
 with the product."""
 
 from tests.readers import media as samples_of
+from tests.readers.headers import Fault, Header
 from tests.readers.inspect import code_text, first, in_level, value_of
+from tests.readers.readers import read_row
 from tests.readers.samples import disagreement
 
 # The boxes of which a box has to have one, and those of which it may have at most one (ISO/IEC 14496-12, the quantity
@@ -153,16 +155,24 @@ class Check:
             self.add(box["position"], path, code or "box-invalid", said)
 
     def contents(self, box, path, parent, depth):
-        """Adds the faults of the content of a box that can be read."""
-        fields = box.get("fields")
-        if not fields or not is_whole(box):
+        """Adds the faults of the content of a box that is whole."""
+        if not is_whole(box):
             return
-        if box["type"] == "stz2" and parent == "stbl" and depth == 5 and compact_fault(fields):
+        fields = box.get("fields")
+        if fields and box["type"] == "stz2" and parent == "stbl" and depth == 5 and compact_fault(fields):
             self.add(box["position"], path, "sizes-unlisted", compact_fault(fields))
-        if box["type"] == "avcC" and parent in ("avc1", "avc2"):
-            if not fields["sequenceParameterSetNALUnit"] or not fields["pictureParameterSetNALUnit"]:
-                self.add(box["position"], path, "avc-without-sets",
-                         "there is no sequence parameter set or no picture parameter set")
+        if box["type"] == "avcC" and parent in ("avc1", "avc2") and self.lacks_sets(box):
+            self.add(box["position"], path, "avc-without-sets",
+                     "there is no sequence parameter set or no picture parameter set")
+
+    def lacks_sets(self, box):
+        """Returns whether a kind of parameter set is missing in an `avcC`. What follows the sets may be faulty."""
+        own = self.data[box["position"]:box["position"] + box["length"]]
+        try:
+            found = read_row(own, Header(own, 0))
+        except Fault:
+            return False
+        return not found["sequence_parameter_sets"] or not found["picture_parameter_sets"]
 
     # ---- tracks
 
