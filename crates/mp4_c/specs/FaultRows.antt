@@ -1,4 +1,4 @@
--- The rows for C of the faults of a file, and the texts of their paths and words. Tests compare these texts.
+-- The rows for C of the faults of a file, and the texts of their paths and words. Tests compare the words.
 use Rattle.std.specs.Prelude.{◌≡◌, ℕ, ◌+◌, ◌<◌, ◌==◌, ◌⊎◌, Bool, List, [], ◌∷◌, ◌++◌, length, None, Some}
 use Rattle.std.specs.Prelude.{if◌then◌else◌}
 use Rattle.std.specs.declared.option.Option.{Option}
@@ -11,6 +11,7 @@ use Rattle.mp4_c_boxes.specs.declared.status.TheConstants.{OK, NO_ROOM, OUT_OF_M
 use Rattle.mp4_check.specs.Codes.{code_of, severity_of, word_of}
 use Rattle.mp4_check.specs.FaultValues.{Value}
 use Rattle.mp4_check.specs.Faults.{faults_of}
+use Rattle.mp4_check.specs.PathTexts.{path_shown}
 use Rattle.mp4_check.specs.declared.fault.Code.{Code}
 use Rattle.mp4_check.specs.declared.fault.Code.TheVariants as c
 use Rattle.mp4_check.specs.declared.fault.Severity.{Severity}
@@ -94,11 +95,11 @@ abbrev pub CopiesName : ℕ → ℕ → List ℕ → List ℕ → ℕ → Type 0
 CopiesName n status old new count = (count ≡ length (name_at n)) × Fills status (name_at n) old new
 
 -- the row of a fault whose path and words are in the text, starting at this position
-abbrev pub fault_row : ℕ → Value → List ℕ → List ℕ → FaultRow
-fault_row at v path words = record {
+abbrev pub fault_row : ℕ → Value → List ℕ → FaultRow
+fault_row at v words = record {
   position = v.position;
-  path = part_at at path;
-  text = part_at (at + length path) words;
+  path = part_at at (path_shown v.path);
+  text = part_at (at + length (path_shown v.path)) words;
   code = code_number (code_of v.what);
   severity = severity_number (severity_of (code_of v.what));
 }
@@ -107,8 +108,9 @@ fault_row at v path words = record {
 abbrev pub AreRows : ℕ → List Value → List FaultRow → List ℕ → Type 0
 AreRows at [] rows text = (rows ≡ []) × (text ≡ [])
 AreRows at (v ∷ vs) rows text =
-    (path words rest : List ℕ) × (more : List FaultRow) × AreRows (at + length path + length words) vs more rest
-    × (rows ≡ fault_row at v path words ∷ more) × (text ≡ path ++ (words ++ rest))
+    (words rest : List ℕ) × (more : List FaultRow)
+    × AreRows (at + length (path_shown v.path) + length words) vs more rest
+    × (rows ≡ fault_row at v words ∷ more) × (text ≡ path_shown v.path ++ (words ++ rest))
 
 -- The rows and the texts of these faults are appended.
 abbrev pub AddsFaults : List Value → FoundFaults → FoundFaults → Type 0

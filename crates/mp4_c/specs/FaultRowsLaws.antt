@@ -5,6 +5,7 @@ use Rattle.mp4_c.specs.FaultRows.{AddsFaults, AreRows, fault_row}
 use Rattle.mp4_c.specs.declared.file_faults.FaultRow.{FaultRow}
 use Rattle.mp4_c.specs.declared.file_faults.FoundFaults.{FoundFaults}
 use Rattle.mp4_check.specs.FaultValues.{Value}
+use Rattle.mp4_check.specs.PathTexts.{path_shown}
 
 rows_append : (at next : ℕ) (vs ws : List Value) (rows more : List FaultRow) (text other : List ℕ)
     → next ≡ at + length text → AreRows at vs rows text → AreRows next ws more other
@@ -17,11 +18,11 @@ rows_append at next [] ws rows more text other is (no_rows, no_text) are =
     subst (λ (rs : List FaultRow). AreRows at ws rs other)
     (sym (ap (λ (rs : List FaultRow). rs ++ more) no_rows)) here in
     subst (λ (t : List ℕ). AreRows at ws (rows ++ more) t) (sym (ap (λ (xs : List ℕ). xs ++ other) no_text)) with_rows
-rows_append at next (v ∷ vs) ws rows more text other is (path, words, rest, own, are_own, rows_are, text_is) are =
+rows_append at next (v ∷ vs) ws rows more text other is (words, rest, own, are_own, rows_are, text_is) are =
+    let path = path_shown v.path in
     let long : length text ≡ length path + (length words + length rest) =
     ap (λ (xs : List ℕ). length xs) text_is ∙ length-append path (words ++ rest)
     ∙ ap (λ (n : ℕ). length path + n) (length-append words rest) in (
-      path,
       words,
       rest ++ other,
       own ++ more,

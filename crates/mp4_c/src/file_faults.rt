@@ -5,6 +5,7 @@ ghost use Rattle.mp4_c.specs.FaultRows.{AddsFaults, AreFaults, ChecksFile, Copie
 ghost use Rattle.mp4_c.specs.FaultRows.{code_number, name_at, severity_number, table_of};
 ghost use Rattle.mp4_c.specs.FaultRowsLaws.{adds_more, adds_none};
 ghost use Rattle.mp4_check.specs.FaultValues.{value_of};
+ghost use Rattle.mp4_check.specs.PathTexts.{path_shown};
 
 use crate::text_part::{TextPart, push_part, put_front};
 use mp4_c_boxes::status::{NO_ROOM, OK, OUT_OF_MEMORY};
@@ -127,14 +128,15 @@ fn severity_number(severity: Severity) -> u32
     }
 }
 
-/// Appends `fault`, with its path and its words, to `found`.
+/// Appends `fault`, with the text of its path and its words, to `found`.
 fn push_fault(
     fault: &Fault,
     path: &str,
     words: &str,
     found: &mut FoundFaults,
 ) -> Result<(), AllocError>
-    ensures { OnOk result (AddsFaults (value_of fault.now ∷ []) found.old found.new) }
+    ensures { path.now ≡ path_shown fault.now.path.items
+        → OnOk result (AddsFaults (value_of fault.now ∷ []) found.old found.new) }
 {
     let code = fault.what.code();
     let path = push_part(path.as_bytes(), &mut found.text)?;

@@ -19,6 +19,7 @@ pub mod Media
 pub mod Outside
 pub mod Overlap
 pub mod Parts
+pub mod PathTexts
 pub mod Paths
 pub mod References
 pub mod SampleFaults

@@ -1,4 +1,4 @@
--- The line or the JSON object of a fault. The words and the text of the path are any text: tests compare them.
+-- The line or the JSON object of a fault. The words are any text: tests compare them.
 use Rattle.std.specs.Prelude.{◌≡◌, ℕ, ◌||◌, Bool, true, false, List, [], ◌∷◌, ◌++◌, codes, decimal, fold, None, Some}
 use Rattle.std.specs.Prelude.{if◌then◌else◌}
 use Rattle.std.specs.Borrow.{Bor}
@@ -8,6 +8,7 @@ use Rattle.json.specs.Print.{print}
 use Rattle.json.specs.Token.{Token}
 use Rattle.mp4_check.specs.Codes.{code_of, severity_of, severity_word, word_of}
 use Rattle.mp4_check.specs.FaultValues.{Value}
+use Rattle.mp4_check.specs.PathTexts.{path_shown}
 use Rattle.mp4_check.specs.declared.fault.Severity.{Severity}
 use Rattle.mp4_check.specs.declared.fault.Severity.TheVariants as severities
 use Rattle.mp4_check.specs.declared.lines.Form.{Form}
@@ -34,7 +35,8 @@ line_text front v path said =
     ++ (said ++ 10 ∷ []))))))
 
 abbrev pub IsLine : Form → Value → List ℕ → Type 0
-IsLine (forms.Lines name) v text = (path said : List ℕ) × (text ≡ line_text (front_text name) v path said)
+IsLine (forms.Lines name) v text =
+    (said : List ℕ) × (text ≡ line_text (front_text name) v (path_shown v.path) said)
 IsLine (forms.Objects name) v text = ⊥
 
 abbrev pub text_member : List ℕ → List ℕ → List Token
@@ -56,7 +58,8 @@ fault_tokens name v path said =
     ++ (text_member (codes "text") said ++ Token.end_object ∷ []))))
 
 abbrev pub IsObject : List ℕ → Value → List ℕ → Type 0
-IsObject name v text = (path said : List ℕ) × (text ≡ json_escaped (print (fault_tokens name v path said)))
+IsObject name v text =
+    (said : List ℕ) × (text ≡ json_escaped (print (fault_tokens name v (path_shown v.path) said)))
 
 abbrev pub IsShown : Form → Value → List ℕ → Type 0
 IsShown (forms.Lines name) v text = IsLine (forms.Lines name) v text

@@ -37,7 +37,7 @@ pub use extent::{Extent, Lies, whereabouts};
 pub use fault::{Code, Fault, Reason, Severity, What};
 pub use fault_form::FaultForm;
 pub use faults::{write_faults, write_faults_as};
-pub use lines::{Form, Told, path_text};
+pub use lines::{Form, Told, path_text, push_path};
 pub use outside::{Outside, Stray};
 pub use overlap::{Overlap, chunks_overlap};
 pub use parts::{group_of, is_file, is_part, needed};

@@ -1,14 +1,19 @@
 -- The events of the fields of a box that are shown, by how the box is read.
-use Rattle.std.specs.Prelude.{ℕ, ◌==◌, ◌&&◌, Bool, nat_le, nat_lt, List, [], length, if◌then◌else◌}
+use Rattle.std.specs.Prelude.{ℕ, ◌-◌, ◌^◌, ◌==◌, ◌&&◌, Bool, true, nat_le, nat_lt, List, [], length, if◌then◌else◌}
 use Rattle.mp4_frame.specs.Bytes.{number as uint}
 use Rattle.mp4_show.specs.FrontFields.{entry_fields, head_fields, list_fields, reference_fields}
 use Rattle.mp4_show.specs.FrontFields.{sound_fields, terminator_fields, usertype_fields, visual_fields}
 use Rattle.mp4_shown.specs.Event.{Event, Shown}
+use Rattle.mp4_shown.specs.declared.view.View.{View}
 use Rattle.uuid.specs.Text.{hyphenated_text, lower}
 use Rattle.mp4_content.specs.declared.content.Content.{Content}
 use Rattle.mp4_content.specs.declared.content.Content.TheVariants as contents
 use Rattle.mp4_content.specs.declared.kind.Kind.{Kind}
 use Rattle.mp4_content.specs.declared.kind.Kind.TheVariants as kinds
+
+-- how a box is shown in JSON: whole
+abbrev pub json_view : View
+json_view = record { rows = 2 ^ 64 - 1; columns = true }
 
 -- QuickTime's version of a sound entry is left out if it is 0
 abbrev pub has_version : Bool → List ℕ → Bool

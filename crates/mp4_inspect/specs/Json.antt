@@ -1,5 +1,5 @@
 -- The JSON of a file, in tokens (RFC 8259).
-use Rattle.std.specs.Prelude.{◌≡◌, ℕ, zero, suc, ◌-◌, ◌^◌, ◌==◌, ◌||◌, min, Bool, false, true}
+use Rattle.std.specs.Prelude.{◌≡◌, ℕ, zero, suc, ◌-◌, ◌==◌, ◌||◌, min, Bool, false, true}
 use Rattle.std.specs.Prelude.{List, [], ◌∷◌, ◌++◌, codes, decimal}
 use Rattle.std.specs.Prelude.{IfSome}
 use Rattle.std.specs.Prelude.{None, Some, if◌then◌else◌}
@@ -11,7 +11,7 @@ use Rattle.mp4_frame.specs.Reading.{Reading}
 use Rattle.mp4_frame.specs.declared.box_type.BoxType.{BoxType}
 use Rattle.mp4_frame.specs.declared.four_cc.FourCC.{FourCC}
 use Rattle.mp4_content.specs.Content.{ShowsAs, is_faulty}
-use Rattle.mp4_content.specs.Fields.{front_fields}
+use Rattle.mp4_content.specs.Fields.{front_fields, json_view}
 use Rattle.mp4_content.specs.Kind.{kind_of}
 use Rattle.mp4_content.specs.declared.content.Content.{Content}
 use Rattle.mp4_content.specs.declared.content.Content.TheVariants as contents
@@ -39,10 +39,6 @@ head_tokens found =
     Token.begin_object ∷ Token.key (codes "type") ∷ type_token found.code
     ∷ (number_member (codes "position") found.position
     ++ (number_member (codes "length") found.length ++ number_member (codes "header") found.header_length))
-
--- how a box is shown in JSON: whole
-abbrev pub json_view : View
-json_view = record { rows = 2 ^ 64 - 1; columns = true }
 
 -- the fields of a box with these events: their members, in an object
 abbrev pub fields_tokens : List Event → List Token

@@ -12,10 +12,9 @@ use Rattle.mp4_frame.specs.declared.codes.TheConstants as names
 use Rattle.mp4_frame.specs.declared.four_cc.FourCC.{FourCC}
 use Rattle.mp4_inspect.specs.declared.rows.Row.{Row}
 use Rattle.mp4_inspect.specs.declared.rows.RowSink.{RowSink}
-use Rattle.mp4_content.specs.Fields.{content_fields}
+use Rattle.mp4_content.specs.Fields.{content_fields, json_view}
 use Rattle.mp4_content.specs.declared.content.Content.{Content}
 use Rattle.mp4_content.specs.declared.content.Content.TheVariants as contents
-use Rattle.mp4_inspect.specs.Json.{json_view}
 use Rattle.mp4_shown.specs.Event.{Event, Shown, shown_of}
 use Rattle.mp4_shown.specs.Event as event
 use Rattle.mp4_shown.specs.declared.value.Value.{Value}

@@ -2,7 +2,7 @@
 
 use crate::differences::{Change, Side, What};
 use json::Writer;
-use mp4_check::Part;
+use mp4_check::{Part, push_path};
 use mp4_show::{Result, json_text, push_code, push_escaped, push_number};
 use mp4_shown_json::JsonSink;
 use mp4_stream::FourCC;
@@ -27,20 +27,6 @@ fn push_index(number: u64, out: &mut String) -> Result<()> {
     out.push('[')?;
     push_number(number, out)?;
     out.push(']')?;
-    Ok(())
-}
-
-/// Appends a path: its parts, each with its index unless that is 0.
-fn push_path(path: &[Part], out: &mut String) -> Result<()> {
-    let mut before = "";
-    for part in path {
-        out.push_str(before)?;
-        push_name(part.code, out)?;
-        if part.index > 0 {
-            push_index(part.index, out)?;
-        }
-        before = "/";
-    }
     Ok(())
 }
 

@@ -1,6 +1,5 @@
 use Rattle.mp4_inspect.proofs.Json.{puts_fields}
-use Rattle.mp4_content.specs.Fields.{content_fields}
-use Rattle.mp4_inspect.specs.Json.{json_view}
+use Rattle.mp4_content.specs.Fields.{content_fields, json_view}
 use Rattle.mp4_inspect.proofs.tree_json.put_all_fields.Goals as goal
 use Rattle.mp4_shown.specs.Event.{shown_of}
 
