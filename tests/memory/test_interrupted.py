@@ -3,6 +3,7 @@ EINTR, by the library interrupt.c. Each run has to end with the status, the outp
 interrupts."""
 
 import os
+import random
 import shutil
 import subprocess
 import tempfile
@@ -10,6 +11,7 @@ import unittest
 
 from tests.built import TOP, built
 from tests.files.stored import stored
+from tests.programs.test_faststart import Track, made
 
 
 def run(words, data, by_file, folder, library):
@@ -76,6 +78,9 @@ class Interrupted(unittest.TestCase):
     def test_mp4remux(self):
         for words in (["faststart", "in.mp4", "out.mp4"], ["faststart", "in.mp4", "-"]):
             self.compare("mp4_remux_program", words, self.plain)
+        movie = made(random.Random(1), [Track(1, [[100000, 20], [30]]), Track(2, [[5]])])
+        for words in (["fragment", "in.mp4", "out.mp4"], ["fragment", "in.mp4", "-"]):
+            self.compare("mp4_remux_program", words, movie)
 
 
 if __name__ == "__main__":

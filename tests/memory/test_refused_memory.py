@@ -91,13 +91,14 @@ class RefusedMemory(unittest.TestCase):
                 self.assertTrue(begun.startswith(run.stdout), run.stdout)
         return ample.stdout
 
-    def test_mp4remux_faststart(self):
-        """Refuses memory to mp4remux, which has to write the same file or none."""
+    def rewrites(self, command, data):
+        """Refuses memory to a command of mp4remux over the file `data`, which has to write the same file or none.
+        Returns the file."""
         with tempfile.TemporaryDirectory() as folder:
             names = [os.path.join(folder, name) for name in ("in.mp4", "out.mp4")]
             with open(names[0], "wb") as file:
-                file.write(made(random.Random(1), [Track(1, [[10, 20], [30]]), Track(2, [[5]])]))
-            command = [built("mp4_remux_program"), "faststart", *names]
+                file.write(data)
+            command = [built("mp4_remux_program"), command, *names]
 
             def left():
                 """Returns what a run has left beside in.mp4, and removes it."""
@@ -115,7 +116,7 @@ class RefusedMemory(unittest.TestCase):
                 most = int(text.read())
             for settings in ({}, {"AND_LATER": "1"}):
                 for number in range(1, most + 1):
-                    with self.subTest(request=number, **settings):
+                    with self.subTest(command=command[1], request=number, **settings):
                         run = self.run_with(command, b"", REFUSE=str(number), **settings)
                         found = left()
                         if run.returncode == 0:
@@ -124,6 +125,12 @@ class RefusedMemory(unittest.TestCase):
                         self.assertEqual((run.returncode, run.stdout, found), (3, b"", {}))
                         self.assertTrue(run.stderr.endswith(b"out of memory\n") or b"os error 12" in run.stderr,
                                         run.stderr)
+            return wanted["out.mp4"]
+
+    def test_mp4remux(self):
+        data = made(random.Random(1), [Track(1, [[10, 20], [30]]), Track(2, [[5]])])
+        self.rewrites("faststart", data)
+        self.rewrites("defragment", self.rewrites("fragment", data))
 
     def test_mp4inspect(self):
         wanted = stored("mp4_inspect", "stdout")

@@ -46,8 +46,8 @@ ROWS = "rows"
 FIELDS = "fields"
 PROGRAMS = "programs"
 PROGRAM_TESTS = ["programs.test_inspect", "programs.test_check", "programs.test_info", "programs.test_diff",
-                 "programs.test_faststart", "readers.test_containers", "interfaces.test_one_answer",
-                 "interfaces.test_library"]
+                 "programs.test_faststart", "programs.test_fragment", "readers.test_containers",
+                 "interfaces.test_one_answer", "interfaces.test_library"]
 LIBRARY = re.compile(r"programs::(test_library::|\w+::\w+_by_(python|rust)$)")
 # The number of inputs of test_differential that are read with the rows, and the number of bytes that are read at once.
 # The text of a longer row may be longer than the output that a run without proof keeps.

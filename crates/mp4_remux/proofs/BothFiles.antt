@@ -60,7 +60,7 @@ with_boxes (Some B) (Some C) r' s' ps n v w fs gs one two stsd a b samples = rec
 }
 
 -- there are as many answers as tracks
-infos_counted : (file : List ℕ) (n : ℕ) (fs : List Found) (ts : List TrackInfo) → AreInfos file n fs ts
+pub infos_counted : (file : List ℕ) (n : ℕ) (fs : List Found) (ts : List TrackInfo) → AreInfos file n fs ts
     → length ts ≡ length fs
 infos_counted file n [] [] are = refl
 infos_counted file n (f ∷ fs) (t ∷ ts) are = omega (arith, infos_counted file (n + 1) fs ts are.1)

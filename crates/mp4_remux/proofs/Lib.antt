@@ -14,4 +14,5 @@ pub mod Splicing
 pub mod Steps
 pub mod Grouping
 pub mod BothFiles
+pub mod BothForms
 pub mod Writing

@@ -23,3 +23,4 @@ pub mod Spots
 pub mod Edits
 pub mod Shortcuts
 pub mod Tags
+pub mod Forms

@@ -6,6 +6,7 @@ ghost use Rattle.mp4_remux.specs.declared.refusal.Refusal.TheVariants.{Edit};
 ghost use Rattle.mp4_remux.specs.declared.refusal.Stop.TheVariants.{Failed, Refused};
 
 use crate::edits::EditRefusal;
+use crate::forms::FormRefusal;
 use mp4_io::{Failure, read_failure};
 use mp4_movie::{BoxError, MovieError};
 use mp4_samples::Disagreement;
@@ -73,6 +74,9 @@ pub enum Refusal {
     /// An edit can't be made.
     #[error("{0}")]
     Edit(EditRefusal),
+    /// The other form of the file can't be made.
+    #[error("{0}")]
+    Form(FormRefusal),
 }
 
 /// The reason why a new file is not written, or not to its end.

@@ -40,7 +40,7 @@ fn borrowed<'a>(boxes: &'a Option<SampleBoxes>) -> Option<Tables<'a>>
 }
 
 /// Returns the samples of a track with these sample tables and fragments, if the tables agree.
-fn samples_in<'a>(
+pub(crate) fn samples_in<'a>(
     tables: &'a Option<SampleBoxes>,
     fragments: &'a [TrackFragment],
     track: TrackPlace,

@@ -9,3 +9,4 @@ pub mod Laws
 pub mod EditedMovie
 pub mod EditedFile
 pub mod WrittenEdits
+pub mod WrittenForms

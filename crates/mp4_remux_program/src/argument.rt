@@ -1,5 +1,6 @@
-//! The values of the options of `edit`: the changes that they ask for.
+//! The values of options: the changes that those of `edit` ask for, and the seconds of `fragment`.
 
+use crate::seconds::nanoseconds_in;
 use mp4_frame::FourCC;
 use mp4_remux::edits::{Parent, packed_language};
 use mp4_walk::BoxPath;
@@ -66,6 +67,10 @@ const ROTATION: &str = "expected TRACK=DEGREES with 0, 90, 180 or 270, such as 1
 const TRACK: &str = "expected a track_ID, such as 1";
 /// The form of the value of `--tag`.
 const TAG: &str = "expected KEY=VALUE with a key of four characters, such as \u{a9}alb=Blue";
+
+/// The form of the value of `--duration`.
+const DURATION: &str =
+    "expected a number of seconds above 0, with at most nine digits after the point, such as 2.5";
 
 /// Returns what is before the first `=` of `text`, and what is after it.
 fn halves<'a>(text: &'a str, form: &'static str) -> Result<(&'a str, &'a str), ArgumentError> {
@@ -193,4 +198,12 @@ pub(crate) fn tag(alloc: Global, value: &str) -> Result<Argument, ArgumentError>
     let (key, text) = halves(value, TAG)?;
     let text = String::from_str(alloc, text)?;
     Ok(Argument::Tag(code(key, TAG)?, text))
+}
+
+/// Returns the number of nanoseconds that `--duration` with this value asks for.
+pub(crate) fn duration(value: &str) -> Result<u64, ArgumentError> {
+    match nanoseconds_in(value) {
+        Some(nanoseconds) => Ok(nanoseconds),
+        None => Err(ArgumentError::Form(DURATION)),
+    }
 }

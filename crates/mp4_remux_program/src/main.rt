@@ -1,5 +1,5 @@
 //! The program `mp4remux` rewrites the container of MP4 files, and keeps every sample of every track. It writes a file
-//! with its `moov` before its media data, or with edits of its boxes.
+//! with its `moov` before its media data, with edits of its boxes, or with its samples in fragments or in tables.
 #![tactic(auto)]
 
 mod argument;
@@ -16,22 +16,28 @@ mod offsets;
 mod outcome;
 mod place;
 mod planning;
+mod playlist;
 mod progress;
 mod rebuild;
 mod refusal;
 mod request;
 mod rewriting;
+mod seconds;
+mod segments;
 mod shift;
 mod task;
 mod write;
 mod write_edit;
+mod write_forms;
 
 use changes::{NoChanges, changes_of};
 use mp4_command::{NOT_UTF_8, unreadable};
 use mp4_io::Failure;
+use mp4_remux::forms::FragmentOptions;
 use outcome::Outcome;
 use request::{Request, Work, requested};
 use rewriting::rewrite;
+use segments::write_segments;
 use std::process::ExitCode;
 use task::Task;
 
@@ -51,6 +57,24 @@ fn task_of(rt: &HostRuntime, work: Work) -> Result<Task, NoChanges> {
     match work {
         Work::FastStart => Ok(Task::FastStart),
         Work::Edit(arguments) => Ok(Task::Edit(changes_of(rt, arguments)?)),
+        Work::Fragment(options) => Ok(Task::Fragment(options)),
+        Work::Defragment => Ok(Task::Defragment),
+    }
+}
+
+/// Returns the options of `task` if it writes segments, which are several files.
+fn segmented(task: &Task) -> Option<FragmentOptions> {
+    match task {
+        Task::Fragment(options) if options.is_segmented => Some(*options),
+        _ => None,
+    }
+}
+
+/// Carries out `task` with the file `from`, and writes the file or the directory `to`.
+fn carry_out(rt: &HostRuntime, task: Task, from: &str, to: &str) -> Result<Outcome, Failure> {
+    match segmented(&task) {
+        Some(options) => write_segments(rt, options, from, to),
+        None => rewrite(rt, task, from, to),
     }
 }
 
@@ -61,7 +85,7 @@ fn write_file(rt: &HostRuntime, request: Request) -> Result<Outcome, Failure> {
         return Ok(Outcome::Failed);
     }
     match task_of(rt, work) {
-        Ok(task) => rewrite(rt, task, from.as_str(), to.as_str()),
+        Ok(task) => carry_out(rt, task, from.as_str(), to.as_str()),
         Err(NoChanges::Told(outcome)) => Ok(outcome),
         Err(NoChanges::Memory) => Err(Failure::Memory),
     }

@@ -1,12 +1,13 @@
 //! The requests that a command line can make.
 
 use crate::argument::{
-    Argument, ArgumentError, brands, insertion, language, removal, replacement, rotation, tag,
-    track_of,
+    Argument, ArgumentError, brands, duration, insertion, language, removal, replacement, rotation,
+    tag, track_of,
 };
 use clap::{Arg, ArgAction, ArgMatches, Command, Error};
 use mp4_command::{MISUSE, escaped, print_error, unreadable, words_of};
 use mp4_io::Failure;
+use mp4_remux::forms::FragmentOptions;
 use std::alloc::{AllocError, Global};
 
 /// The work that a command line asks for.
@@ -16,6 +17,10 @@ pub enum Work {
     FastStart,
     /// These changes.
     Edit(Vec<Argument>),
+    /// All samples in fragments.
+    Fragment(FragmentOptions),
+    /// All samples in tables.
+    Defragment,
 }
 
 /// A request to write a file.
@@ -25,7 +30,7 @@ pub struct Request {
     pub work: Work,
     /// The name of the file to read. A name that is not UTF-8 has a mark.
     pub from: String,
-    /// The name of the file to write; `-` is the standard output.
+    /// The name of the file to write; `-` is the standard output. If segments are asked for, the name of the directory.
     pub to: String,
 }
 
@@ -76,6 +81,23 @@ before; a stco may become a co64. So no edit may change a sample table (stbl) or
 
 A dropped track has no samples any more. Its trak and trex are removed, and its traf become free boxes of the same
 length. Its media data stay where they are, and so do references to it. All other tracks keep every sample.
+
+Exit status: 0 written, 1 refused (nothing is written), 2 misuse, 3 failed.";
+
+/// The end of the help of `fragment`.
+const AFTER_FRAGMENT: &str =
+    "Every sample of every track keeps its bytes, times, flags and description. The file is cut at sync samples of the
+first video, at the same times in all tracks. Without --duration, it is cut at each of them, and a file without video
+every 2 seconds. What fragments can't say, such as auxiliary information of encrypted samples, is refused.
+
+With --segments, the samples are those of init.mp4 and all segments, joined in order.
+
+Exit status: 0 written, 1 refused (nothing is written), 2 misuse, 3 failed.";
+
+/// The end of the help of `defragment`.
+const AFTER_DEFRAGMENT: &str =
+    "Every sample of every track keeps its bytes, times, flags and description. What tables can't say is refused: a
+first sample that is not decoded at 0, and a gap between samples.
 
 Exit status: 0 written, 1 refused (nothing is written), 2 misuse, 3 failed.";
 
@@ -187,6 +209,53 @@ fn edit<'a>(alloc: Global) -> Result<Command<'a>, AllocError> {
     with_tags(alloc, command)
 }
 
+/// Adds the options of `fragment` to `command`.
+fn with_fragments<'a>(alloc: Global, command: Command<'a>) -> Result<Command<'a>, AllocError> {
+    let seconds =
+        "Begin a fragment at a sync sample at least SECONDS after the last beginning, such as 2.5";
+    let segments =
+        "Write segments and an HLS playlist to the directory DIR, which must be empty or new";
+    let before = "Write an index of the fragments before them";
+    let after = "Write an index of the fragments after them";
+    command
+        .arg(option(alloc, "duration", "SECONDS", seconds))?
+        .arg(flag(alloc, "sidx", before))?
+        .arg(flag(alloc, "mfra", after))?
+        .arg(
+            option(alloc, "segments", "DIR", segments)
+                .conflicts_with("OUT")?
+                .conflicts_with("sidx")?
+                .conflicts_with("mfra")?,
+        )
+}
+
+/// Returns the command `fragment`.
+fn fragment<'a>(alloc: Global) -> Result<Command<'a>, AllocError> {
+    let about =
+        "Write a copy of a file with its samples in fragments: a moof and an mdat for each group of pictures";
+    let command = Command::new(alloc, "fragment")
+        .about(about)
+        .after_help(AFTER_FRAGMENT)
+        .arg(input(alloc))?
+        .arg(
+            Arg::new(alloc, "OUT")
+                .required_unless_present("segments")?
+                .help(OUTPUT),
+        )?;
+    with_fragments(alloc, command)
+}
+
+/// Returns the command `defragment`.
+fn defragment<'a>(alloc: Global) -> Result<Command<'a>, AllocError> {
+    let about =
+        "Write a copy of a file with its fragments joined: one moov with tables of all samples, and one mdat";
+    Command::new(alloc, "defragment")
+        .about(about)
+        .after_help(AFTER_DEFRAGMENT)
+        .arg(input(alloc))?
+        .arg(output(alloc))
+}
+
 /// Returns the whole command line.
 fn command<'a>(alloc: Global) -> Result<Command<'a>, AllocError> {
     Command::new(alloc, "mp4remux")
@@ -197,7 +266,9 @@ fn command<'a>(alloc: Global) -> Result<Command<'a>, AllocError> {
         .subcommand_required(true)
         .arg_required_else_help(true)
         .subcommand(fast_start(alloc)?)?
-        .subcommand(edit(alloc)?)
+        .subcommand(edit(alloc)?)?
+        .subcommand(fragment(alloc)?)?
+        .subcommand(defragment(alloc)?)
 }
 
 /// Returns the name of the file in the argument `id` of `matches`.
@@ -303,13 +374,51 @@ fn edit_of(alloc: Global, matches: &ArgMatches<'_>) -> Result<Work, Misuse> {
     Ok(Work::Edit(arguments))
 }
 
-/// Returns the request to do `work` with the files in `matches`.
-fn files_in(alloc: Global, matches: &ArgMatches<'_>, work: Work) -> Result<Request, AllocError> {
+/// Returns the least number of nanoseconds of a fragment in `matches`, or `None` if it is not given.
+fn least_of(alloc: Global, matches: &ArgMatches<'_>) -> Result<Option<u64>, Misuse> {
+    let Some(given) = matches.get_str("duration") else {
+        return Ok(None);
+    };
+    let value = utf_8(alloc, given)?;
+    match duration(value) {
+        Ok(least) => Ok(Some(least)),
+        Err(error) => Err(misuse_of(alloc, "duration", value, error)),
+    }
+}
+
+/// Returns the fragments that `matches` ask for.
+fn fragments_of(alloc: Global, matches: &ArgMatches<'_>) -> Result<FragmentOptions, Misuse> {
+    Ok(FragmentOptions {
+        least: least_of(alloc, matches)?,
+        has_sidx: matches.get_flag("sidx"),
+        has_mfra: matches.get_flag("mfra"),
+        is_segmented: matches.contains_id("segments"),
+    })
+}
+
+/// Returns the request to do `work` with the file IN of `matches`, and to write what the argument `to` names.
+fn files_in(
+    alloc: Global,
+    matches: &ArgMatches<'_>,
+    work: Work,
+    to: &str,
+) -> Result<Request, AllocError> {
     Ok(Request {
         work,
         from: name_of(alloc, matches, "IN")?,
-        to: name_of(alloc, matches, "OUT")?,
+        to: name_of(alloc, matches, to)?,
     })
+}
+
+/// Returns the request for the fragments in `matches`.
+fn fragment_of(alloc: Global, matches: &ArgMatches<'_>) -> Result<Request, Misuse> {
+    let options = fragments_of(alloc, matches)?;
+    let to = if options.is_segmented {
+        "segments"
+    } else {
+        "OUT"
+    };
+    Ok(files_in(alloc, matches, Work::Fragment(options), to)?)
 }
 
 /// Returns the request in `matches`.
@@ -317,10 +426,12 @@ fn asked(alloc: Global, matches: &ArgMatches<'_>) -> Result<Request, Misuse> {
     match matches.subcommand() {
         Some(("edit", inner)) => {
             let work = edit_of(alloc, inner)?;
-            Ok(files_in(alloc, inner, work)?)
+            Ok(files_in(alloc, inner, work, "OUT")?)
         }
-        Some((_, inner)) => Ok(files_in(alloc, inner, Work::FastStart)?),
-        None => Ok(files_in(alloc, matches, Work::FastStart)?),
+        Some(("fragment", inner)) => fragment_of(alloc, inner),
+        Some(("defragment", inner)) => Ok(files_in(alloc, inner, Work::Defragment, "OUT")?),
+        Some((_, inner)) => Ok(files_in(alloc, inner, Work::FastStart, "OUT")?),
+        None => Ok(files_in(alloc, matches, Work::FastStart, "OUT")?),
     }
 }
 

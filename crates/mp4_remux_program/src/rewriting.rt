@@ -18,7 +18,7 @@ use std::{fs, io};
 
 /// The names of the two files.
 #[derive(Clone, Copy)]
-struct Names<'a> {
+pub struct Names<'a> {
     /// The name of the file that is read.
     pub from: &'a str,
     /// The name of the file that is written.
@@ -31,7 +31,7 @@ struct Names<'a> {
 
 /// The file that is read, opened twice, since the old file and the new one are read at the same time.
 #[derive(Drop)]
-struct Opened {
+pub struct Opened {
     /// The file.
     pub first: Kept<File>,
     /// The same file.
@@ -43,7 +43,7 @@ struct Opened {
 }
 
 /// Prints to standard error what is wrong with a file. Its name in messages is `shown`.
-fn tell(rt: &HostRuntime, shown: &str, error: &io::Error) -> Outcome {
+pub(crate) fn tell(rt: &HostRuntime, shown: &str, error: &io::Error) -> Outcome {
     let _ = eprintln!(rt; "mp4remux: {shown}: {error}");
     Outcome::Failed
 }
@@ -71,7 +71,7 @@ fn read_error(opened: Opened) -> Option<io::Error> {
 }
 
 /// Prints to standard error why a file was not written. `opened` and `write_error` have the last errors of both files.
-fn tell_stop(
+pub(crate) fn tell_stop(
     rt: &HostRuntime,
     names: Names<'_>,
     stop: &Stop,
@@ -163,14 +163,20 @@ fn write_file(
     Ok(done)
 }
 
-/// Prints what was written to the file whose name in messages is `shown`. A reader who has closed the pipe does without
-/// the line.
-fn tell_done(rt: &HostRuntime, shown: &str, done: Done) -> Result<Outcome, Failure> {
-    match println!(rt; "{shown}: {done}") {
+/// Returns the outcome of a run that has written everything and printed a line about it. A reader who has closed the
+/// pipe does without the line.
+pub(crate) fn after_line(printed: io::Result<()>) -> Result<Outcome, Failure> {
+    match printed {
         Ok(()) => Ok(Outcome::Written),
         Err(error) if is_closed_pipe(&error) => Ok(Outcome::Written),
         Err(_) => Err(Failure::Write),
     }
+}
+
+/// Prints what was written to the file whose name in messages is `shown`.
+fn tell_done(rt: &HostRuntime, shown: &str, done: Done) -> Result<Outcome, Failure> {
+    let printed = println!(rt; "{shown}: {done}");
+    after_line(printed)
 }
 
 /// Gives the new file at `partial` the permissions of the file that is read, and renames it to `target`.
@@ -272,7 +278,7 @@ fn open_twice(rt: &HostRuntime, name: &str) -> io::Result<(Opened, Metadata)> {
 
 /// Opens the file that is read, and returns it with its node. If that fails or it is not a regular file, prints a line
 /// to standard error and returns `None`. A FIFO is not opened, since that would wait for a writer.
-fn open_source(rt: &HostRuntime, names: Names<'_>) -> Option<(Opened, Node)> {
+pub(crate) fn open_source(rt: &HostRuntime, names: Names<'_>) -> Option<(Opened, Node)> {
     let shown = names.shown_from;
     let opened = match fs::metadata(rt, names.from) {
         Ok(metadata) => {
@@ -302,6 +308,16 @@ fn misuse(rt: &HostRuntime, what: &str) -> Outcome
 {
     let _ = eprintln!(rt; "mp4remux: -: {what}");
     Outcome::Misused
+}
+
+/// Prints to standard error that the standard input can't be IN.
+pub(crate) fn misuse_of_input(rt: &HostRuntime) -> Outcome
+    ensures { result ≡ Outcome.Misused }
+{
+    misuse(
+        rt,
+        "IN must be a file, since it is read twice; ./- is a file of this name",
+    )
 }
 
 /// Carries out `task` with the file `from`, and writes the new file to the file `to`, or to the standard output if `to`
@@ -336,10 +352,7 @@ pub fn rewrite(rt: &HostRuntime, task: Task, from: &str, to: &str) -> Result<Out
     ensures { from.now ≡ codes "-" → result ≡ Ok Outcome.Misused }
 {
     if from == "-" {
-        return Ok(misuse(
-            rt,
-            "IN must be a file, since it is read twice; ./- is a file of this name",
-        ));
+        return Ok(misuse_of_input(rt));
     }
     rewrite_file(rt, task, from, to)
 }

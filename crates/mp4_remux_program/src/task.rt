@@ -4,8 +4,10 @@ use crate::movement::Move;
 use crate::refusal::Stop;
 use crate::write::write_fast_start;
 use crate::write_edit::write_edited;
+use crate::write_forms::{write_fragments, write_tables};
 use mp4_io::Output;
 use mp4_remux::edits::{Shortcut, edits_of};
+use mp4_remux::forms::{FragmentOptions, plan_fragments, plan_tables};
 use mp4_walk::Source;
 use std::alloc::Global;
 use std::fmt;
@@ -18,6 +20,10 @@ pub enum Task {
     FastStart,
     /// It is written with these changes.
     Edit(Vec<Shortcut>),
+    /// It is written with its samples in fragments.
+    Fragment(FragmentOptions),
+    /// It is written with its samples in tables.
+    Defragment,
 }
 
 /// The result of a task.
@@ -29,6 +35,20 @@ pub enum Done {
     Copied,
     /// This many changes are made.
     Edited(usize),
+    /// This many fragments are made.
+    Fragmented(usize),
+    /// Its fragments are joined.
+    Joined {
+        /// The number of `moof`s that are joined.
+        fragments: u64,
+        /// The number of samples in the new tables.
+        samples: u64,
+    },
+}
+
+/// Returns the word for this many fragments.
+fn fragments_word(count: u64) -> &'static str {
+    if count == 1 { "fragment" } else { "fragments" }
 }
 
 impl fmt::Display for Done {
@@ -42,6 +62,14 @@ impl fmt::Display for Done {
             Done::Edited(count) => {
                 let words = if *count == 1 { "edit is" } else { "edits are" };
                 write!(f, "{count} {words} made")
+            }
+            Done::Fragmented(count) => {
+                let word = fragments_word(*count as u64);
+                write!(f, "{count} {word}")
+            }
+            Done::Joined { fragments, samples } => {
+                let word = fragments_word(*fragments);
+                write!(f, "{fragments} {word} joined, {samples} samples")
             }
         }
     }
@@ -74,6 +102,34 @@ fn edit<S: Source, T: Source, W: Write>(
     Ok(Done::Edited(count))
 }
 
+/// Writes the file `first` with its samples in fragments. `second` is the same file.
+fn fragment<S: Source, T: Source, W: Write>(
+    alloc: Global,
+    options: FragmentOptions,
+    first: &mut S,
+    second: T,
+    output: &mut Output<W>,
+) -> Result<Done, Stop> {
+    let fragmented = plan_fragments(alloc, &mut *first, options)?;
+    write_fragments(alloc, first, second, &fragmented.plan, output)?;
+    Ok(Done::Fragmented(fragmented.parts.len()))
+}
+
+/// Writes the file `first` with its samples in tables. `second` is the same file.
+fn defragment<S: Source, T: Source, W: Write>(
+    alloc: Global,
+    first: &mut S,
+    second: T,
+    output: &mut Output<W>,
+) -> Result<Done, Stop> {
+    let joined = plan_tables(alloc, &mut *first)?;
+    write_tables(alloc, first, second, &joined.plan, output)?;
+    Ok(Done::Joined {
+        fragments: joined.fragments,
+        samples: joined.samples,
+    })
+}
+
 /// Carries out `task` with the file `first`. `second` is the same file, since the old and the new file are compared.
 pub(crate) fn carry_out<S: Source, T: Source, W: Write>(
     alloc: Global,
@@ -85,5 +141,7 @@ pub(crate) fn carry_out<S: Source, T: Source, W: Write>(
     match task {
         Task::FastStart => fast_start(alloc, first, second, output),
         Task::Edit(changes) => edit(alloc, changes, first, second, output),
+        Task::Fragment(options) => fragment(alloc, options, first, second, output),
+        Task::Defragment => defragment(alloc, first, second, output),
     }
 }
