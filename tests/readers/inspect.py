@@ -396,8 +396,8 @@ ORDERS = {
     "vpcC": ["version", "flags", "profile", "level", "bitDepth", "colorSpace", "chromaSubsampling", "transferFunction",
              "videoFullRangeFlag", "colourPrimaries", "transferCharacteristics", "matrixCoefficients",
              "codecInitializationDataSize"],
-    "decConfigDescr": ["objectTypeIndication", "streamType", "upStream", "bufferSizeDB", "maxBitrate", "avgBitrate",
-                       "decSpecificInfo"],
+    "decConfigDescr": ["size_bytes", "objectTypeIndication", "streamType", "upStream", "reserved", "bufferSizeDB",
+                       "maxBitrate", "avgBitrate", "decSpecificInfo"],
     "trun": ["version", "flags", "sample_count", "data_offset", "first_sample_flags", "samples"],
 }
 # The names of the parts of a sample.
