@@ -11,5 +11,6 @@ pub mod Pairs
 pub mod Patterns
 pub mod RowChanges
 pub mod Rows
+pub mod TreeLines
 pub mod Trees
 pub mod Written

@@ -24,7 +24,7 @@ use mp4_info::{facts_of, info_json, info_text, is_known};
 use mp4_inspect_samples::{Choice, TrackFault, write_samples};
 use mp4_io::{Failure, Output, or_read, write_all};
 use mp4_movie::{Movie, TrackInfo};
-use mp4_show::{Look, TextSink};
+use mp4_show::Look;
 use mp4_walk::{BoxWalk, Source, TreeBox};
 use std::alloc::Global;
 use std::io::Write;
@@ -93,18 +93,17 @@ fn show_boxes<B: Shown, S: Source, W: Write>(
     ensures texts { IfSome tree.old.bytes
         (λ bytes. boxes.now ≡ boxes_of bytes
         → IfOk result (λ faulty.
-        WritesFile B.known B.named_reading heading.now bytes
+        WritesFile B.known B.named_reading B.shown look heading.now bytes
         (W.contents output.old.inner) (W.contents output.new.inner) faulty)) }
     ensures beginning { OnErr result
         (IfSome tree.old.bytes
         (λ bytes. boxes.now ≡ boxes_of bytes
-        → BeginsFile B.known B.named_reading heading.now bytes
+        → BeginsFile B.known B.named_reading B.shown look heading.now bytes
         (W.contents output.old.inner) (W.contents output.new.inner))) }
     ensures failed { output.new.failed ≡ (output.old.failed || is_write result) }
 {
     write_all(output, heading.as_bytes())?;
-    let sink = TextSink::new(alloc, look);
-    write_tree::<B, S, W>(alloc, tree, boxes, tracks, sink, output)
+    write_tree::<B, S, W>(alloc, tree, boxes, tracks, look, output)
 }
 
 /// Writes the heading and the tree of a source as text, after reading the headers of all boxes. Returns whether a box
@@ -118,11 +117,11 @@ fn show_tree<B: Shown, S: Source, W: Write>(
 ) -> Result<bool, Failure>
     ensures texts { IfSome (S.all source)
         (λ bytes. IfOk result
-        (λ faulty. WritesFile B.known B.named_reading heading.now bytes
+        (λ faulty. WritesFile B.known B.named_reading B.shown look heading.now bytes
         (W.contents output.old.inner) (W.contents output.new.inner) faulty)) }
     ensures beginning { OnErr result
         (IfSome (S.all source)
-        (λ bytes. BeginsFile B.known B.named_reading heading.now bytes
+        (λ bytes. BeginsFile B.known B.named_reading B.shown look heading.now bytes
         (W.contents output.old.inner) (W.contents output.new.inner))) }
     ensures failed { output.new.failed ≡ (output.old.failed || is_write result) }
 {
@@ -314,12 +313,12 @@ pub fn inspect<B: Shown, S: Source, W: Write>(
     ensures tree { show.task ≡ Task.Tree
         → IfSome (S.all source)
         (λ bytes. IfOk result
-        (λ faulty. WritesFile B.known B.named_reading (heading_of show name.now) bytes (W.contents output.old.inner)
-        (W.contents output.new.inner) faulty)) }
+        (λ faulty. WritesFile B.known B.named_reading B.shown show.look (heading_of show name.now) bytes
+        (W.contents output.old.inner) (W.contents output.new.inner) faulty)) }
     ensures beginning { show.task ≡ Task.Tree
         → OnErr result (IfSome (S.all source)
-        (λ bytes. BeginsFile B.known B.named_reading (heading_of show name.now) bytes (W.contents output.old.inner)
-        (W.contents output.new.inner))) }
+        (λ bytes. BeginsFile B.known B.named_reading B.shown show.look (heading_of show name.now) bytes
+        (W.contents output.old.inner) (W.contents output.new.inner))) }
     ensures json { show.task ≡ Task.Json
         → IfSome (S.all source)
         (λ bytes. IfOk result
