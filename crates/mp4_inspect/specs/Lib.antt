@@ -3,6 +3,7 @@ pub mod Checked
 pub mod Colors
 pub mod Differences
 pub mod Heading
+pub mod Info
 pub mod Json
 pub mod Listed
 pub mod Opened
