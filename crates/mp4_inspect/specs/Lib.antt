@@ -8,6 +8,7 @@ pub mod Listed
 pub mod Opened
 pub mod Outcome
 pub mod Pairs
+pub mod PatternText
 pub mod Patterns
 pub mod RowChanges
 pub mod Rows
