@@ -122,6 +122,13 @@ class Declared:
         elif name == "WithSize":
             yield "size (4)"
             yield from self.parts_of(inside[0], fields)
+        elif name == "Tagged":
+            tag = re.search(rf"impl DescriptorTag for {inside[0][0]} .*? const TAG: u8 = (\d+);", self.source)[1]
+            yield f"tag {tag}"
+            yield from self.parts_of(("Expandable", inside[1:]), fields)
+        elif name == "Expandable":
+            yield f"{next(fields, None)} (of a size in 1 to 4)"
+            yield from self.parts_of(inside[0], fields)
         elif name == "Dependent":
             bits, entry, *widths = inside
             yield f"{next(fields, None)} ({self.entry(bits[0], *(it[0] for it in widths))})"
@@ -158,6 +165,8 @@ class Declared:
             return f"count {NUMBERS[names[0]]}; each: {', '.join(self.parts_of_entry(names[1]))}"
         if name == "Counted":
             return f"counted before; each: {', '.join(self.parts_of_entry(names[0]))}"
+        if name == "Nested":
+            return ", ".join(self.parts_of_entry(names[0]))
         if name == "AvcTail":
             known, least = re.search(
                 r"if has_format\(context\.version\) && (\d+) <= left { .*? read_after::<Nested<(\w+)>>",

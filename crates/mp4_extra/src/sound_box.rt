@@ -35,6 +35,7 @@ macro_rules! of_boxes {
                 Dfla DflaBox DFLA,
                 Dops DopsBox DOPS,
                 Enda EndaBox ENDA,
+                Esds EsdsBox ESDS,
                 Gmin GminBox GMIN,
                 Hmhd HmhdBox HMHD,
                 Nmhd NmhdBox NMHD,
@@ -61,6 +62,7 @@ pub enum SoundBox {
     DflaBox(DflaBox),
     DopsBox(DopsBox),
     EndaBox(EndaBox),
+    EsdsBox(EsdsBox),
     GminBox(GminBox),
     HmhdBox(HmhdBox),
     NmhdBox(NmhdBox),
@@ -83,6 +85,7 @@ pub enum SoundType {
     DflaBox,
     DopsBox,
     EndaBox,
+    EsdsBox,
     GminBox,
     HmhdBox,
     NmhdBox,
@@ -132,6 +135,7 @@ impl SoundDeclarations for SoundBox {
       | types.DflaBox ↦ valid_as ⟦<Dfla as Described>⟧.declaration refl
       | types.DopsBox ↦ valid_as ⟦<Dops as Described>⟧.declaration refl
       | types.EndaBox ↦ valid_as ⟦<Enda as Described>⟧.declaration refl
+      | types.EsdsBox ↦ valid_as ⟦<Esds as Described>⟧.declaration refl
       | types.GminBox ↦ valid_as ⟦<Gmin as Described>⟧.declaration refl
       | types.HmhdBox ↦ valid_as ⟦<Hmhd as Described>⟧.declaration refl
       | types.NmhdBox ↦ valid_as ⟦<Nmhd as Described>⟧.declaration refl
@@ -259,6 +263,14 @@ impl Holds<EndaBox> for SoundBox {
 
     fn wrap(value: EndaBox) -> SoundBox {
         SoundBox::EndaBox(value)
+    }
+}
+
+impl Holds<EsdsBox> for SoundBox {
+    ghost wrapped = { boxes.EsdsBox };
+
+    fn wrap(value: EsdsBox) -> SoundBox {
+        SoundBox::EsdsBox(value)
     }
 }
 

@@ -4,6 +4,7 @@
 
 mod after;
 pub mod alac;
+pub mod audio_config;
 pub mod auxc;
 pub mod av1c;
 pub mod avcc;
@@ -17,11 +18,13 @@ pub mod counted;
 pub mod dac3;
 pub mod dec3;
 pub mod dependent;
+pub mod descriptors;
 pub mod dfla;
 pub mod dops;
 pub mod dvcc;
 pub mod dvvc;
 pub mod enda;
+pub mod esds;
 pub mod fiel;
 pub mod gmin;
 pub mod hvcc;

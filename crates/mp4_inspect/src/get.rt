@@ -18,7 +18,7 @@ use json::{Error, Scratch, Value};
 use mp4_command::escaped;
 use mp4_content::{Content, Shown, content_of, or_memory, put_content};
 use mp4_io::{Failure, Output, or_read, write_all};
-use mp4_show::{Look, TextSink, json_text};
+use mp4_show::{Look, json_text};
 use mp4_shown_json::JsonSink;
 use mp4_walk::{BoxWalk, Source, TreeBox};
 use std::alloc::Global;
@@ -229,13 +229,12 @@ fn write_text<B: Shown, S: Source, W: Write>(
 ) -> Result<Got, Failure>
     ensures trees { IfSome (S.all source)
         (λ file. IfOk result
-        (WritesTrees B.known B.named_reading pattern.now file (W.contents output.old.inner)
+        (WritesTrees B.known B.named_reading B.shown look pattern.now file (W.contents output.old.inner)
         (W.contents output.new.inner))) }
 {
     let (mut walk, boxes, tracks) = list_file(alloc, source)?;
     let shown = or_memory(trees_at(alloc, &boxes, pattern))?;
-    let sink = TextSink::new(alloc, look);
-    let faulty = write_tree::<B, S, W>(alloc, &mut walk, &shown, &tracks, sink, output)?;
+    let faulty = write_tree::<B, S, W>(alloc, &mut walk, &shown, &tracks, look, output)?;
     Ok(got_of(!shown.is_empty(), faulty))
 }
 
@@ -417,7 +416,7 @@ pub fn get_boxes<B: Shown, S: Source, W: Write>(
     ensures tree { get.now.form ≡ GetForm.Tree
         → IfSome (S.all source)
         (λ file. IfOk result
-        (WritesTrees B.known B.named_reading get.now.pattern file (W.contents output.old.inner)
+        (WritesTrees B.known B.named_reading B.shown look get.now.pattern file (W.contents output.old.inner)
         (W.contents output.new.inner))) }
     ensures json { get.now.form ≡ GetForm.Json
         → IfSome (S.all source)

@@ -1,5 +1,5 @@
 use Rattle.mp4_walk.proofs.PathTexts.{no_parse}
-use Rattle.mp4_walk.proofs.path.index_of.Goals as goal
+use Rattle.mp4_walk.proofs.path.path_index.Goals as goal
 
 pub returns-clause-none : goal.returns-clause-none
 returns-clause-none c =

@@ -1,6 +1,6 @@
 use Rattle.std.proofs.lemmas.Str.{IsUtf8-past_char}
 use Rattle.mp4_walk.proofs.PathTexts.{if_none, no_first, no_next}
-use Rattle.mp4_walk.proofs.path.code_of.Goals as goal
+use Rattle.mp4_walk.proofs.path.path_code.Goals as goal
 
 pub returns-in_err-first-clause-none : goal.returns-in_err-first-clause-none
 returns-in_err-first-clause-none c = if_none _ _ (no_first 3 c.args.text.now c.in_err-first.ensures.none)
