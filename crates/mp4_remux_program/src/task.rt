@@ -1,5 +1,6 @@
 //! The tasks of the program, each with a file.
 
+use crate::cut::{Times, cut};
 use crate::movement::Move;
 use crate::refusal::Stop;
 use crate::write::write_fast_start;
@@ -24,6 +25,8 @@ pub enum Task {
     Fragment(FragmentOptions),
     /// It is written with its samples in tables.
     Defragment,
+    /// The part of it between two times is written.
+    Cut(Times),
 }
 
 /// The result of a task.
@@ -44,6 +47,8 @@ pub enum Done {
         /// The number of samples in the new tables.
         samples: u64,
     },
+    /// This many samples are in the part.
+    Cut(u64),
 }
 
 /// Returns the word for this many fragments.
@@ -71,6 +76,7 @@ impl fmt::Display for Done {
                 let word = fragments_word(*fragments);
                 write!(f, "{fragments} {word} joined, {samples} samples")
             }
+            Done::Cut(samples) => write!(f, "{samples} samples"),
         }
     }
 }
@@ -143,5 +149,6 @@ pub(crate) fn carry_out<S: Source, T: Source, W: Write>(
         Task::Edit(changes) => edit(alloc, changes, first, second, output),
         Task::Fragment(options) => fragment(alloc, options, first, second, output),
         Task::Defragment => defragment(alloc, first, second, output),
+        Task::Cut(times) => Ok(Done::Cut(cut(alloc, times, first, second, output)?)),
     }
 }

@@ -203,7 +203,11 @@ fn twin_of(alloc: Global, plan: &Plan) -> Result<Plan, Stop>
 }
 
 /// Returns a source of the file that `plan` spells out over `again`.
-fn new_file<T: Source>(alloc: Global, again: T, plan: &Plan) -> Result<PieceSource<T>, Stop>
+pub(crate) fn new_file<T: Source>(
+    alloc: Global,
+    again: T,
+    plan: &Plan,
+) -> Result<PieceSource<T>, Stop>
     ensures old { IfOk result (λ s. s.old ≡ T.all again) }
     ensures pieces { IfOk result (λ s. (B : List ℕ) → spelled B s.pieces ≡ spelled B plan.now) }
 {
