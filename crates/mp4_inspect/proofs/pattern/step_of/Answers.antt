@@ -7,8 +7,7 @@ use Rattle.mp4_inspect.proofs.pattern.step_of.Goals as goal
 pub returns-in_default-path_index : goal.returns-in_default-path_index
 returns-in_default-path_index c =
     let rest = c.in-Some.rest.now in
-    let one : is_each c.args.each rest ≡ false = search rules in
-    (
+    let one : is_each c.args.each rest ≡ false = search rules in (
       refl,
       (
         c.in-Some.code.value,
