@@ -33,7 +33,7 @@ bytes_text bytes = flat_map byte_text bytes
 abbrev pub are_plain : List ℕ → Bool
 are_plain bytes = list_all is_plain bytes
 
-abbrev pub front_text : List ℕ → List ℕ → List ℕ
+unfoldable pub front_text : List ℕ → List ℕ → List ℕ
 front_text first second =
     if are_plain first && are_plain second
     then codes "\"" ++ (bytes_text first ++ (bytes_text second ++ codes "\"")) else bytes_text first

@@ -61,6 +61,7 @@ fn push_bytes(bytes: &[u8], out: &mut String) -> Result<()>
 }
 
 /// Appends the beginning of a file to `out`: eight characters if it is a text, or otherwise the first four bytes.
+#[tactic(auto, unfolding(crate::specs::FaultText::front_text))]
 fn push_front(first: &[u8], second: &[u8], out: &mut String) -> Result<()>
     ensures text { OnOk result (string_bytes out.new ≡ string_bytes out.old ++ front_text first.now second.now) }
 {

@@ -1,6 +1,6 @@
 -- The text of a box: its line, and below it a line for each entry of its lists.
-use Rattle.std.specs.Prelude.{◌≡◌, ℕ, ◌*◌, ◌==◌, Bool, List, [], ◌∷◌, ◌++◌, None, Some, chars, codes, decimal, length}
-use Rattle.std.specs.Prelude.{option_map, replicate, if◌then◌else◌}
+use Rattle.std.specs.Prelude.{◌≡◌, ℕ, ◌*◌, ◌==◌, Bool, false, List, [], ◌∷◌, ◌++◌, None, Some, chars, codes, decimal}
+use Rattle.std.specs.Prelude.{length, option_map, replicate, if◌then◌else◌}
 use Rattle.std.specs.List.{fold}
 use Rattle.std.specs.declared.option.Option.{Option}
 use Rattle.mp4_frame.specs.FourCC.{four_cc_of}
@@ -18,9 +18,8 @@ use Rattle.mp4_show.specs.declared.look.Look.{Look}
 use Rattle.mp4_shown.specs.Event.{Event, shown_of}
 use Rattle.mp4_shown.specs.declared.value.Value.{Value}
 use Rattle.mp4_shown.specs.declared.view.View.{View}
-use Rattle.mp4_walk.specs.Names.{name_in}
+use Rattle.mp4_walk.specs.Names.{box_name}
 use Rattle.mp4_walk.specs.Paths.{is_code}
-use Rattle.mp4_walk.specs.declared.name.TheConstants.{NAMES}
 use Rattle.mp4_walk.specs.declared.tree_box.TreeBox.{TreeBox}
 
 -- the place of a box: its position and its length
@@ -51,7 +50,7 @@ with_track words found s = if is_code (four_cc_of box_codes.TRAK) found.code the
 -- the name of boxes with a code for people, if it has one
 unfoldable pub called : Option FourCC → Option (List ℕ)
 called None = None
-called (Some code) = name_in NAMES code.value
+called (Some code) = box_name code.value
 
 -- a word, and the name in brackets
 abbrev pub with_name : List ℕ → List ℕ → List ℕ

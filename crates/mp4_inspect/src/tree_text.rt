@@ -1,7 +1,7 @@
 //! The tree of a file as text.
 
 ghost use Rattle.std.specs.Prelude.{◌≡◌, ℕ, ◌*◌, ◌++◌, ◌||◌, [], false, codes, decimal, length, option_map, replicate};
-ghost use Rattle.std.specs.Prelude.{string_bytes, IfOk, OnOk, OnErr, IfSome, List};
+ghost use Rattle.std.specs.Prelude.{string_bytes, true, IfOk, OnOk, OnErr, IfSome, List};
 ghost use Rattle.mp4_io.specs.Ends.{is_read, is_write};
 ghost use Rattle.mp4_content.specs.Content.{ShowsAs, is_faulty};
 ghost use Rattle.mp4_content.specs.FaultText.{IsFaultText};
@@ -161,7 +161,7 @@ fn put_track(
 }
 
 /// Returns the name of a box for people, if it has one.
-#[tactic(auto, unfolding(crate::specs::TreeLines::called))]
+#[tactic(auto, unfolding(crate::specs::TreeLines::called, mp4_walk::specs::Names::box_name))]
 fn called(found: &TreeBox) -> Option<&'static str>
     ensures { option_map (λ name. name.now) result ≡ called found.now.code }
 {

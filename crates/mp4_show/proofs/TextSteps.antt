@@ -1,6 +1,6 @@
 -- Steps of the text of a box.
-use Rattle.std.proofs.Common.{◌≡◌, ℕ, List, [], ◌++◌, Bool, false, cond, ap, sym, append_assoc, ◌∙◌}
-use Rattle.std.specs.Prelude.{codes, if◌then◌else◌}
+use Rattle.std.proofs.Common.{◌≡◌, ℕ, List, [], ◌++◌, Bool, true, false, cond, ap, sym, append_assoc, ◌∙◌}
+use Rattle.std.specs.Prelude.{◌&&◌, codes, if◌then◌else◌}
 use Rattle.mp4_show.specs.Lines.{TextState, with_piece}
 use Rattle.mp4_show.specs.TextTrace.{last_list, list_left, named, rest_told}
 use Rattle.mp4_show.specs.declared.text_sink.OpenList.{OpenList}
@@ -15,7 +15,11 @@ piece_put s0 s1 s2 name value front piece kept begun more put =
 -- a field that is not left out
 pub field_put : (usual : Bool) (s0 s2 : TextState) (piece : List ℕ) → usual ≡ false → s2 ≡ with_piece s0 piece
     → s2 ≡ (if usual then s0 else with_piece s0 piece)
-field_put usual s0 s2 piece no put = put ∙ ap (λ (b : Bool). cond b s0 (with_piece s0 piece)) (sym no)
+field_put usual s0 s2 piece kept put = put ∙ ap (λ (b : Bool). cond b s0 (with_piece s0 piece)) (sym kept)
+
+-- two facts hold, and a third one decides
+pub last_holds : (value both third last : Bool) → value ≡ both → value ≡ true → last ≡ third → last ≡ (both && third)
+last_holds value both third last is held decides = decides ∙ ap (λ (b : Bool). b && third) (sym held ∙ is)
 
 -- a piece that is one text
 pub only_piece : (cleared piece text : List ℕ) → cleared ≡ [] → piece ≡ cleared ++ text → piece ≡ text

@@ -34,7 +34,7 @@ fixed_shown n bits =
     ++ (if n % one_of bits == 0 then [] else 46 ∷ fraction (suc (min bits 30)) (n % one_of bits) (one_of bits))
 
 -- such a number that may be negative
-abbrev pub signed_fixed_shown : ℤ → ℕ → List ℕ
+unfoldable pub signed_fixed_shown : ℤ → ℕ → List ℕ
 signed_fixed_shown z bits = sign_text (is_negative z) ++ fixed_shown (unsigned_abs z) bits
 
 -- the digits of the first bytes, and whether more follow
@@ -98,7 +98,7 @@ numbers_shown [] = []
 numbers_shown (z ∷ zs) = signed_decimal z ++ flat_map number_after_space zs
 
 -- a row of a transformation, of which the last number has 30 bits after the point
-abbrev pub row_shown : ℤ → ℤ → ℤ → List ℕ
+unfoldable pub row_shown : ℤ → ℤ → ℤ → List ℕ
 row_shown first second third =
     signed_fixed_shown first 16
     ++ (32 ∷ (signed_fixed_shown second 16 ++ (32 ∷ signed_fixed_shown third 30)))

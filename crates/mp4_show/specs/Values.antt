@@ -36,12 +36,16 @@ value_shown (shown.bytes bs) = bytes_shown bs
 value_shown (shown.number_list zs) = numbers_shown zs
 value_shown (shown.matrix m) = matrix_shown m
 
+-- a row of a transformation is these numbers
+unfoldable pub is_row : ℤ × ℤ × ℤ → ℤ → ℤ → ℤ → Bool
+is_row row first second third = int_eq row.0 first && int_eq row.1 second && int_eq row.2 third
+
 -- the transformation that changes nothing
 abbrev pub is_identity : Matrix → Bool
 is_identity m =
-    int_eq m.a (pos 0x10000) && int_eq m.b (pos 0) && int_eq m.u (pos 0)
-    && int_eq m.c (pos 0) && int_eq m.d (pos 0x10000) && int_eq m.v (pos 0)
-    && int_eq m.x (pos 0) && int_eq m.y (pos 0) && int_eq m.w (pos 0x40000000)
+    is_row (m.a, m.b, m.u) (pos 0x10000) (pos 0) (pos 0)
+    && is_row (m.c, m.d, m.v) (pos 0) (pos 0x10000) (pos 0)
+    && is_row (m.x, m.y, m.w) (pos 0) (pos 0) (pos 0x40000000)
 
 -- a value is left out of a text, since most boxes have it
 abbrev pub is_usual : Shown → Bool

@@ -52,7 +52,7 @@ fn year_of(days: u64) -> (u64, u64)
     let mut year: u64 = 1904;
     let mut day = days;
     let mut left: u64 = 400;
-    'left: while left > 0 {
+    while left > 0 {
         let long = days_in_year(year);
         if day < long {
             return (year, day);
@@ -73,7 +73,7 @@ fn month_of(year: u64, days: u64) -> (u64, u64)
     let mut month: u64 = 1;
     let mut day = days;
     let mut left: u64 = 12;
-    'left: while left > 0 {
+    while left > 0 {
         let long = days_in_month(year, month);
         if day < long {
             return (month, day);

@@ -42,6 +42,7 @@ fn push_sign(negative: bool, out: &mut String) -> Result<()>
 }
 
 /// Appends a fixed-point number that may be negative, in the form of `push_fixed`.
+#[tactic(auto, unfolding(crate::specs::Texts::signed_fixed_shown))]
 pub(crate) fn push_signed_fixed(number: i64, bits: u32, out: &mut String) -> Result<()>
     ensures text { OnOk result (string_bytes out.new ≡ string_bytes out.old ++ signed_fixed_shown number bits) }
 {

@@ -1,13 +1,13 @@
 //! The text of a box: its line, and a line for each entry of its lists.
 
-ghost use Rattle.std.specs.Prelude.{◌≡◌, ◌++◌, OnOk, codes, length, replicate, string_bytes};
+ghost use Rattle.std.specs.Prelude.{◌≡◌, ◌++◌, OnOk, codes, false, length, replicate, string_bytes};
 ghost use Rattle.std.specs.Str.{chars};
 ghost use Rattle.mp4_show.specs.Lines.{TextState, begun, further, in_color, new_line, separated, state_of};
 ghost use Rattle.mp4_show.specs.Lines.{with_colored, with_piece, with_words, wrote};
 ghost use Rattle.mp4_show.specs.TextTrace.{after_list, counted, entry_begun, last_list, list_left, numbered};
 ghost use Rattle.mp4_show.specs.TextTrace.{rest_told, then_text, with_entry, with_more};
 ghost use Rattle.mp4_show.specs.Texts.{colored};
-ghost use Rattle.mp4_show.specs.Values.{is_identity, is_usual};
+ghost use Rattle.mp4_show.specs.Values.{is_identity, is_row, is_usual};
 ghost use Rattle.mp4_shown.specs.Event.{shown_of};
 
 use crate::look::Look;
@@ -328,19 +328,21 @@ fn after_list(list: OpenList) -> Before
     }
 }
 
-/// Returns whether a transformation changes nothing.
-fn is_identity(m: &Matrix) -> bool
-    ensures { result ≡ is_identity m.now }
+/// Returns whether a row of a transformation is (`first` `second` `third`).
+#[tactic(auto, unfolding(crate::specs::Values::is_row))]
+fn is_row(row: (i32, i32, i32), first: i32, second: i32, third: i32) -> bool
+    ensures { result ≡ is_row row first second third }
 {
-    m.a == 0x1_0000
-        && m.b == 0
-        && m.u == 0
-        && m.c == 0
-        && m.d == 0x1_0000
-        && m.v == 0
-        && m.x == 0
-        && m.y == 0
-        && m.w == 0x4000_0000
+    row.0 == first && row.1 == second && row.2 == third
+}
+
+/// Returns whether a transformation changes nothing.
+fn is_identity(m: Matrix) -> bool
+    ensures { result ≡ is_identity m }
+{
+    is_row((m.a, m.b, m.u), 0x1_0000, 0, 0)
+        && is_row((m.c, m.d, m.v), 0, 0x1_0000, 0)
+        && is_row((m.x, m.y, m.w), 0, 0, 0x4000_0000)
 }
 
 /// Returns whether a value is left out of a text, since most boxes have it.
@@ -348,7 +350,7 @@ fn is_usual(value: Value<'_>) -> bool
     ensures { result ≡ is_usual (shown_of value.entry) }
 {
     match value {
-        Value::Matrix(matrix) => is_identity(matrix),
+        Value::Matrix(matrix) => is_identity(*matrix),
         Value::Number(_)
         | Value::Signed(_)
         | Value::Named(_, _)

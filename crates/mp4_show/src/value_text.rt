@@ -3,7 +3,7 @@
 ghost use Rattle.std.specs.Prelude.{◌≡◌, ◌==◌, ◌∷◌, ◌++◌, true, IfOk, List, OnOk, bit_and, flat_map, map};
 ghost use Rattle.std.specs.Prelude.{string_bytes};
 ghost use Rattle.mp4_show.specs.Texts.{before_flag, code_after_space, codes_shown, flag_names, flags_shown};
-ghost use Rattle.mp4_show.specs.Texts.{matrix_shown, number_after_space, numbers_shown, row_shown};
+ghost use Rattle.mp4_show.specs.Texts.{matrix_shown, number_after_space, numbers_shown, row_shown, signed_fixed_shown};
 ghost use Rattle.mp4_show.specs.Values.{media_time_shown, meaning_shown, value_shown};
 ghost use Rattle.mp4_shown.specs.Event.{Meaning as AMeaning, bytes_of_code, seen_meaning, shown_of};
 
@@ -128,20 +128,27 @@ fn push_numbers(numbers: &[i16], out: &mut String) -> Result<()>
     }
 }
 
+/// Appends a number of a transformation, with this many bits after the point.
+fn push_part(number: i32, bits: u32, out: &mut String) -> Result<()>
+    ensures text { OnOk result (string_bytes out.new ≡ string_bytes out.old ++ signed_fixed_shown number bits) }
+{
+    push_signed_fixed(i64::from(number), bits, out)
+}
+
 /// Appends a row of a transformation.
 fn push_row(first: i32, second: i32, third: i32, out: &mut String) -> Result<()>
     ensures text { OnOk result (string_bytes out.new ≡ string_bytes out.old ++ row_shown first second third) }
 {
-    push_signed_fixed(i64::from(first), 16, out)?;
+    push_part(first, 16, out)?;
     out.push(' ')?;
-    push_signed_fixed(i64::from(second), 16, out)?;
+    push_part(second, 16, out)?;
     out.push(' ')?;
-    push_signed_fixed(i64::from(third), 30, out)
+    push_part(third, 30, out)
 }
 
 /// Appends the rows of a transformation: (a b u), (c d v) and (x y w).
-fn push_matrix(m: &Matrix, out: &mut String) -> Result<()>
-    ensures text { OnOk result (string_bytes out.new ≡ string_bytes out.old ++ matrix_shown m.now) }
+fn push_matrix(m: Matrix, out: &mut String) -> Result<()>
+    ensures text { OnOk result (string_bytes out.new ≡ string_bytes out.old ++ matrix_shown m) }
 {
     out.push('(')?;
     push_row(m.a, m.b, m.u, out)?;
@@ -194,6 +201,6 @@ pub(crate) fn push_value(alloc: Global, value: Value<'_>, out: &mut String) -> R
         Value::Text(text) => push_text(alloc, text, out),
         Value::Bytes(bytes) => push_bytes(bytes, out),
         Value::Numbers(numbers) => push_numbers(numbers, out),
-        Value::Matrix(matrix) => push_matrix(matrix, out),
+        Value::Matrix(matrix) => push_matrix(*matrix, out),
     }
 }

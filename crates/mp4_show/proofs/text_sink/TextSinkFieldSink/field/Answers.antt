@@ -9,7 +9,7 @@ use Rattle.mp4_show.proofs.text_sink.TextSinkFieldSink.field.Goals as goal
 pub returns : goal.returns
 returns c =
     let no : c.is_usual.result ≡ false = search rules in
-    let value = shown_of c.args.value.entry in
+    let value = shown_of c.args.value in
     field_put (is_usual value) (state_of c.args.self.now) (state_of c.put_piece.new.self)
     (named c.args.name.now (value_shown value)) (sym c.is_usual.ensures ∙ no)
     (piece_put (state_of c.args.self.now) (state_of c.name_piece.new.self) (state_of c.put_piece.new.self)
