@@ -1,6 +1,6 @@
 //! The boxes of a `traf`.
 
-ghost use Rattle.std.specs.Prelude.{◌≡◌, [], ◌∷◌, ◌++◌, OnOk};
+ghost use Rattle.std.specs.Prelude.{◌≡◌, [], ◌∷◌, ◌++◌, IfOk, OnOk};
 ghost use Rattle.mp4_frame.specs.FourCC.{four_cc_of};
 ghost use Rattle.mp4_frame.specs.declared.codes.TheConstants as names;
 ghost use Rattle.mp4_movie.specs.Levels.{all_in};

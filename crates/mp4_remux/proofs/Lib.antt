@@ -16,3 +16,12 @@ pub mod Grouping
 pub mod BothFiles
 pub mod BothForms
 pub mod Writing
+pub mod MovieSteps
+pub mod MovedFiles
+pub mod EditParts
+pub mod MovePlans
+pub mod Puts
+pub mod WholeEdits
+pub mod WritingMoves
+pub mod WritingEdits
+pub mod WritingForms

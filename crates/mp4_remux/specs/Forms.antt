@@ -52,3 +52,9 @@ WroteForm f B ps old new (Ok _) = ChangesForm f B (spelled B ps) × Appends old 
 WroteForm f B ps old new (Err (Refused r)) = Appends old new []
 WroteForm f B ps old new (Err (Failed e)) =
     Appends old new [] ⊎ (ChangesForm f B (spelled B ps) × Begins old new (spelled B ps))
+
+-- the same, if the pieces don't matter: a file C is appended
+abbrev pub WroteOtherForm : {A : Type 0} → Form → List ℕ → Option (List ℕ) → Option (List ℕ) → Result A Stop → Type 0
+WroteOtherForm f B old new (Ok _) = (C : List ℕ) × ChangesForm f B C × Appends old new C
+WroteOtherForm f B old new (Err (Refused r)) = Appends old new []
+WroteOtherForm f B old new (Err (Failed e)) = (C : List ℕ) × ((C ≡ []) ⊎ ChangesForm f B C) × Begins old new C

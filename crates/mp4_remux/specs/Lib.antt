@@ -24,3 +24,12 @@ pub mod Edits
 pub mod Shortcuts
 pub mod Tags
 pub mod Forms
+pub mod Moved
+pub mod Moves
+pub mod Offsets
+pub mod MovieBoxes
+pub mod WrittenMoves
+pub mod MoveLaws
+pub mod EditedMovie
+pub mod EditedFile
+pub mod WrittenEdits

@@ -2,6 +2,7 @@
 #![tactic(auto)]
 
 pub mod edits;
+pub mod files;
 pub mod forms;
 mod fragmented;
 mod groups;

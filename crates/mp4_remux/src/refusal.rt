@@ -6,7 +6,9 @@ ghost use Rattle.mp4_remux.specs.declared.refusal.Refusal.TheVariants.{Edit};
 ghost use Rattle.mp4_remux.specs.declared.refusal.Stop.TheVariants.{Failed, Refused};
 
 use crate::edits::EditRefusal;
+use crate::files::Obstacle;
 use crate::forms::FormRefusal;
+use mp4_frame::FourCC;
 use mp4_io::{Failure, read_failure};
 use mp4_movie::{BoxError, MovieError};
 use mp4_samples::Disagreement;
@@ -23,10 +25,49 @@ pub struct TrackPlace {
     pub position: u64,
 }
 
-/// The reason why a plan of a new file is refused: the new file would not keep the media of the old file, or nobody can
-/// tell.
+/// The reason why a file is not rewritten: the new file can't be made, would not keep the media of the old file, or
+/// nobody can tell. Positions are in bytes from the front of the old file.
 #[derive(Debug, Drop, thiserror::Error)]
 pub enum Refusal {
+    /// The file has no `moov`.
+    #[error("there is no moov")]
+    NoMovie,
+    /// The file has more than one `moov`.
+    #[error("there is another moov at {0}")]
+    TwoMovies(u64),
+    /// A box keeps others from being moved.
+    #[error("{0}")]
+    Obstacle(Obstacle),
+    /// An offset would not fit.
+    #[error("{code} at {position}: an offset would be too large")]
+    Overflow {
+        /// The code of the box.
+        code: FourCC,
+        /// The position of the box.
+        position: u64,
+    },
+    /// An offset leads to a byte that is removed or replaced, or would not fit.
+    #[error("{code} at {position}: an offset leads to what is removed or replaced, or would be too large")]
+    Lost {
+        /// The code of the box.
+        code: FourCC,
+        /// The position of the box.
+        position: u64,
+    },
+    /// A box would be too long for a size of 32 bits.
+    #[error("{code} at {position}: its size would be too large")]
+    Size {
+        /// The code of the box.
+        code: FourCC,
+        /// The position of the box.
+        position: u64,
+    },
+    /// So many offsets lead into the `moov` that their comparison would take too long.
+    #[error("moov at {0}: too many of its offsets lead into it")]
+    Steps(u64),
+    /// More of the `moov` would be changed than has to be, which only a fault of this library could cause.
+    #[error("moov at {0}: more would be changed than has to be")]
+    Changed(u64),
     /// A piece of the plan is not in the old file.
     #[error("a piece is not in the old file")]
     Pieces,

@@ -3,32 +3,16 @@
 #![tactic(auto)]
 
 mod argument;
-mod around;
 mod changes;
-mod compare;
 mod destination;
-mod edited;
-mod editing;
-mod laws;
-mod movement;
-mod obstacle;
-mod offsets;
 mod outcome;
-mod place;
-mod planning;
 mod playlist;
 mod progress;
-mod rebuild;
-mod refusal;
 mod request;
 mod rewriting;
 mod seconds;
 mod segments;
-mod shift;
 mod task;
-mod write;
-mod write_edit;
-mod write_forms;
 
 use changes::{NoChanges, changes_of};
 use mp4_command::{NOT_UTF_8, unreadable};
