@@ -560,13 +560,19 @@ BOXES = {"Colr": colours, "Esds": elementary_stream}
 # ---- Boxes
 
 
+def code_of(source):
+    """Returns the code of the box that a file declares. A code that only this box has is a constant of the file."""
+    shared, own = re.search(r"const CODE: u32 = (codes::)?(\w+);", source.text).groups()
+    return codes()[own] if shared else source.constant(own).to_bytes(4, "big").decode("latin-1")
+
+
 def box_in(source):
     """Returns the description of the box that a file declares, or `None` if it declares none."""
     declared = re.search(r"impl DeclaredBox for (\w+) ", source.text)
     if not declared:
         return None
     name = declared[1]
-    code = codes()[re.search(r"const CODE: u32 = codes::(\w+);", source.text)[1]]
+    code = code_of(source)
     told = re.search(rf"((?:^/// .*\n)+)(?:^#.*\n)*^pub struct {name}\b", source.raw, re.M)[1]
     comment = " ".join(line[4:] for line in told.splitlines())
     title, section = re.match(r"(.*?) \(`[^`]*`, ([^)]*)\)", comment).groups()

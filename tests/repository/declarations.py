@@ -52,7 +52,9 @@ class Declared:
         name, owner = re.search(r"impl DeclaredBox for (\w+) .*? type Shape = (\w+);", source).groups()
         self.shape = self.types[owner]
         self.fields = self.fields_of(name)
-        self.code = codes()[re.search(r"const CODE: u32 = codes::(\w+);", source)[1]]
+        shared, own_code = re.search(r"const CODE: u32 = (codes::)?(\w+);", source).groups()
+        number = None if shared else re.search(rf"const {own_code}: u32 = (0x\w+);", source)[1]
+        self.code = codes()[own_code] if shared else int(number, 0).to_bytes(4, "big").decode("latin-1")
         self.section = re.search(rf"/// .*?\(`{self.code}`, ([^)]*)\)", own)[1]
 
     def is_of_section(self, section):

@@ -1,6 +1,7 @@
 -- The types of boxes of sound, text and hints: how they are coded, and the headers of their media.
 use Rattle.std.specs.Prelude.{ℕ, Option}
 use Rattle.mp4_frame.specs.declared.codes.TheConstants as codes
+use Rattle.mp4_extra_media.specs.declared.ftab.TheConstants.{FTAB}
 use Rattle.mp4_extra.specs.Catalogue.{Entry, entry, type_among, Catalogue}
 use Rattle.mp4_extra.specs.declared.sound_box.TheConstants.{TYPES}
 use Rattle.mp4_extra.specs.declared.sound_box.SoundType.{SoundType}
@@ -18,6 +19,7 @@ entry_of types.DflaBox = entry codes.DFLA boxes.DflaBox
 entry_of types.DopsBox = entry codes.DOPS boxes.DopsBox
 entry_of types.EndaBox = entry codes.ENDA boxes.EndaBox
 entry_of types.EsdsBox = entry codes.ESDS boxes.EsdsBox
+entry_of types.FtabBox = entry FTAB boxes.FtabBox
 entry_of types.GminBox = entry codes.GMIN boxes.GminBox
 entry_of types.HmhdBox = entry codes.HMHD boxes.HmhdBox
 entry_of types.NmhdBox = entry codes.NMHD boxes.NmhdBox
@@ -26,6 +28,7 @@ entry_of types.SthdBox = entry codes.STHD boxes.SthdBox
 entry_of types.StppBox = entry codes.STPP boxes.StppBox
 entry_of types.TcmiBox = entry codes.TCMI boxes.TcmiBox
 entry_of types.TextBox = entry codes.TEXT boxes.TextBox
+entry_of types.Tx3gBox = entry codes.TX3G boxes.Tx3gBox
 entry_of types.WvttBox = entry codes.WVTT boxes.WvttBox
 
 -- the type of the boxes of a code
@@ -43,6 +46,7 @@ opened (boxes.DflaBox fields) = (types.DflaBox, fields)
 opened (boxes.DopsBox fields) = (types.DopsBox, fields)
 opened (boxes.EndaBox fields) = (types.EndaBox, fields)
 opened (boxes.EsdsBox fields) = (types.EsdsBox, fields)
+opened (boxes.FtabBox fields) = (types.FtabBox, fields)
 opened (boxes.GminBox fields) = (types.GminBox, fields)
 opened (boxes.HmhdBox fields) = (types.HmhdBox, fields)
 opened (boxes.NmhdBox fields) = (types.NmhdBox, fields)
@@ -51,6 +55,7 @@ opened (boxes.SthdBox fields) = (types.SthdBox, fields)
 opened (boxes.StppBox fields) = (types.StppBox, fields)
 opened (boxes.TcmiBox fields) = (types.TcmiBox, fields)
 opened (boxes.TextBox fields) = (types.TextBox, fields)
+opened (boxes.Tx3gBox fields) = (types.Tx3gBox, fields)
 opened (boxes.WvttBox fields) = (types.WvttBox, fields)
 
 abbrev pub sound_types : Catalogue SoundType SoundBox

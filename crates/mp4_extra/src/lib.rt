@@ -5,7 +5,7 @@
 /// Matches on a value of the enum `$enum` with the same arm for each variant: it binds the box inside and evaluates the
 /// expression.
 macro_rules! each {
-    ([$($fields:ident $held:ident $code:ident),*] $enum:ident, $value:expr, $inside:ident => $answer:expr) => {
+    ([$($fields:ident $held:ident $($code:ident)::+),*] $enum:ident, $value:expr, $inside:ident => $answer:expr) => {
         match $value {
             $($enum::$held($inside) => $answer,)*
         }
@@ -14,16 +14,16 @@ macro_rules! each {
 
 /// Lists all types.
 macro_rules! types {
-    ([$($fields:ident $held:ident $code:ident),*] $types:ident) => {
+    ([$($fields:ident $held:ident $($code:ident)::+),*] $types:ident) => {
         &[$($types::$held),*]
     };
 }
 
 /// Matches on a code with an arm for each type, which is the type.
 macro_rules! by_code {
-    ([$($fields:ident $held:ident $code:ident),*] $types:ident, $found:expr) => {
+    ([$($fields:ident $held:ident $($code:ident)::+),*] $types:ident, $found:expr) => {
         match $found {
-            $(codes::$code => Some($types::$held),)*
+            $($($code)::+ => Some($types::$held),)*
             _ => None,
         }
     };
@@ -31,7 +31,7 @@ macro_rules! by_code {
 
 /// Matches on a type with an arm for each type, which reads a box of this type as a value of `$enum`.
 macro_rules! by_type {
-    ([$($fields:ident $held:ident $code:ident),*] $types:ident, $enum:ident, $of:expr, $values:tt) => {
+    ([$($fields:ident $held:ident $($code:ident)::+),*] $types:ident, $enum:ident, $of:expr, $values:tt) => {
         match $of {
             $($types::$held => read_declared::<$fields, $enum> $values,)*
         }
@@ -40,7 +40,7 @@ macro_rules! by_type {
 
 /// Prints a value of `$enum` as its variant, with the box inside.
 macro_rules! print_held {
-    ([$($fields:ident $held:ident $code:ident),*] $enum:ident, $value:expr, $f:expr) => {
+    ([$($fields:ident $held:ident $($code:ident)::+),*] $enum:ident, $value:expr, $f:expr) => {
         match $value {
             $($enum::$held(inside) => print_variant($f, stringify!($held), inside),)*
         }
@@ -126,6 +126,9 @@ pub use mp4_extra_media::esds::Esds;
 pub use mp4_extra_media::esds::EsdsBox;
 pub use mp4_extra_media::fiel::Fiel;
 pub use mp4_extra_media::fiel::FielBox;
+pub use mp4_extra_media::ftab::FontRecord;
+pub use mp4_extra_media::ftab::Ftab;
+pub use mp4_extra_media::ftab::FtabBox;
 pub use mp4_extra_media::gmin::Gmin;
 pub use mp4_extra_media::gmin::GminBox;
 pub use mp4_extra_media::gmin::GraphicsMode;
@@ -161,6 +164,11 @@ pub use mp4_extra_media::tcmi::Tcmi;
 pub use mp4_extra_media::tcmi::TcmiBox;
 pub use mp4_extra_media::text::Text;
 pub use mp4_extra_media::text::TextBox;
+pub use mp4_extra_media::tx3g::BoxRecord;
+pub use mp4_extra_media::tx3g::StyleRecord;
+pub use mp4_extra_media::tx3g::TextColor;
+pub use mp4_extra_media::tx3g::Tx3g;
+pub use mp4_extra_media::tx3g::Tx3gBox;
 pub use mp4_extra_media::vpcc::VpDraftFormat;
 pub use mp4_extra_media::vpcc::VpFormat;
 pub use mp4_extra_media::vpcc::Vpcc;

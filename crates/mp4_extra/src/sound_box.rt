@@ -14,6 +14,7 @@ ghost use Rattle.mp4_extra.specs.declared.sound_box.SoundBox.TheVariants as boxe
 use super::*;
 use crate::declarations::{Described, print_variant, read_declared, visit_declared};
 use mp4_compose::CodedEnum;
+use mp4_extra_media::ftab;
 use mp4_frame::{
     BoxEnum, BoxType, BoxVisitor, ByteCursor, Holds, Result, TryClone, clone_as, codes,
 };
@@ -27,24 +28,26 @@ macro_rules! of_boxes {
     ($go:ident, $($rest:tt)*) => {
         $go! {
             [
-                Alac AlacBox ALAC,
-                Chan ChanBox CHAN,
-                Chnl ChnlBox CHNL,
-                Dac3 Dac3Box DAC3,
-                Dec3 Dec3Box DEC3,
-                Dfla DflaBox DFLA,
-                Dops DopsBox DOPS,
-                Enda EndaBox ENDA,
-                Esds EsdsBox ESDS,
-                Gmin GminBox GMIN,
-                Hmhd HmhdBox HMHD,
-                Nmhd NmhdBox NMHD,
-                Srat SratBox SRAT,
-                Sthd SthdBox STHD,
-                Stpp StppBox STPP,
-                Tcmi TcmiBox TCMI,
-                Text TextBox TEXT,
-                Wvtt WvttBox WVTT
+                Alac AlacBox codes::ALAC,
+                Chan ChanBox codes::CHAN,
+                Chnl ChnlBox codes::CHNL,
+                Dac3 Dac3Box codes::DAC3,
+                Dec3 Dec3Box codes::DEC3,
+                Dfla DflaBox codes::DFLA,
+                Dops DopsBox codes::DOPS,
+                Enda EndaBox codes::ENDA,
+                Esds EsdsBox codes::ESDS,
+                Ftab FtabBox ftab::FTAB,
+                Gmin GminBox codes::GMIN,
+                Hmhd HmhdBox codes::HMHD,
+                Nmhd NmhdBox codes::NMHD,
+                Srat SratBox codes::SRAT,
+                Sthd SthdBox codes::STHD,
+                Stpp StppBox codes::STPP,
+                Tcmi TcmiBox codes::TCMI,
+                Text TextBox codes::TEXT,
+                Tx3g Tx3gBox codes::TX3G,
+                Wvtt WvttBox codes::WVTT
             ]
             $($rest)*
         }
@@ -63,6 +66,7 @@ pub enum SoundBox {
     DopsBox(DopsBox),
     EndaBox(EndaBox),
     EsdsBox(EsdsBox),
+    FtabBox(FtabBox),
     GminBox(GminBox),
     HmhdBox(HmhdBox),
     NmhdBox(NmhdBox),
@@ -71,6 +75,7 @@ pub enum SoundBox {
     StppBox(StppBox),
     TcmiBox(TcmiBox),
     TextBox(TextBox),
+    Tx3gBox(Tx3gBox),
     WvttBox(WvttBox),
 }
 
@@ -86,6 +91,7 @@ pub enum SoundType {
     DopsBox,
     EndaBox,
     EsdsBox,
+    FtabBox,
     GminBox,
     HmhdBox,
     NmhdBox,
@@ -94,6 +100,7 @@ pub enum SoundType {
     StppBox,
     TcmiBox,
     TextBox,
+    Tx3gBox,
     WvttBox,
 }
 
@@ -136,6 +143,7 @@ impl SoundDeclarations for SoundBox {
       | types.DopsBox ↦ valid_as ⟦<Dops as Described>⟧.declaration refl
       | types.EndaBox ↦ valid_as ⟦<Enda as Described>⟧.declaration refl
       | types.EsdsBox ↦ valid_as ⟦<Esds as Described>⟧.declaration refl
+      | types.FtabBox ↦ valid_as ⟦<Ftab as Described>⟧.declaration refl
       | types.GminBox ↦ valid_as ⟦<Gmin as Described>⟧.declaration refl
       | types.HmhdBox ↦ valid_as ⟦<Hmhd as Described>⟧.declaration refl
       | types.NmhdBox ↦ valid_as ⟦<Nmhd as Described>⟧.declaration refl
@@ -144,6 +152,7 @@ impl SoundDeclarations for SoundBox {
       | types.StppBox ↦ valid_as ⟦<Stpp as Described>⟧.declaration refl
       | types.TcmiBox ↦ valid_as ⟦<Tcmi as Described>⟧.declaration refl
       | types.TextBox ↦ valid_as ⟦<Text as Described>⟧.declaration refl
+      | types.Tx3gBox ↦ valid_as ⟦<Tx3g as Described>⟧.declaration refl
       | types.WvttBox ↦ valid_as ⟦<Wvtt as Described>⟧.declaration refl
     ] };
 }
@@ -274,6 +283,14 @@ impl Holds<EsdsBox> for SoundBox {
     }
 }
 
+impl Holds<FtabBox> for SoundBox {
+    ghost wrapped = { boxes.FtabBox };
+
+    fn wrap(value: FtabBox) -> SoundBox {
+        SoundBox::FtabBox(value)
+    }
+}
+
 impl Holds<GminBox> for SoundBox {
     ghost wrapped = { boxes.GminBox };
 
@@ -335,6 +352,14 @@ impl Holds<TextBox> for SoundBox {
 
     fn wrap(value: TextBox) -> SoundBox {
         SoundBox::TextBox(value)
+    }
+}
+
+impl Holds<Tx3gBox> for SoundBox {
+    ghost wrapped = { boxes.Tx3gBox };
+
+    fn wrap(value: Tx3gBox) -> SoundBox {
+        SoundBox::Tx3gBox(value)
     }
 }
 

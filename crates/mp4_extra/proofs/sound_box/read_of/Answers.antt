@@ -59,6 +59,12 @@ returns-in-EsdsBox-clause-answer c =
     c.args.reader.now.bytes.now (c.args.reader.now.position - 8) c.args.size c.in-EsdsBox.is
     c.read_declared-in-EsdsBox.ensures.answer
 
+pub returns-in-FtabBox-clause-answer : goal.returns-in-FtabBox-clause-answer
+returns-in-FtabBox-clause-answer c =
+    same_reading sound_types ghosts.declared c.args.of types.FtabBox c.read_declared-in-FtabBox.result
+    c.args.reader.now.bytes.now (c.args.reader.now.position - 8) c.args.size c.in-FtabBox.is
+    c.read_declared-in-FtabBox.ensures.answer
+
 pub returns-in-GminBox-clause-answer : goal.returns-in-GminBox-clause-answer
 returns-in-GminBox-clause-answer c =
     same_reading sound_types ghosts.declared c.args.of types.GminBox c.read_declared-in-GminBox.result
@@ -106,6 +112,12 @@ returns-in-TextBox-clause-answer c =
     same_reading sound_types ghosts.declared c.args.of types.TextBox c.read_declared-in-TextBox.result
     c.args.reader.now.bytes.now (c.args.reader.now.position - 8) c.args.size c.in-TextBox.is
     c.read_declared-in-TextBox.ensures.answer
+
+pub returns-in-Tx3gBox-clause-answer : goal.returns-in-Tx3gBox-clause-answer
+returns-in-Tx3gBox-clause-answer c =
+    same_reading sound_types ghosts.declared c.args.of types.Tx3gBox c.read_declared-in-Tx3gBox.result
+    c.args.reader.now.bytes.now (c.args.reader.now.position - 8) c.args.size c.in-Tx3gBox.is
+    c.read_declared-in-Tx3gBox.ensures.answer
 
 pub returns-in-WvttBox-clause-answer : goal.returns-in-WvttBox-clause-answer
 returns-in-WvttBox-clause-answer c =

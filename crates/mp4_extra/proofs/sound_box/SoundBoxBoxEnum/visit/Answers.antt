@@ -54,6 +54,12 @@ visit_declared-requires-in-EsdsBox g c = rw c.in-EsdsBox.is at c.requires
 pub returns-in-EsdsBox : goal.returns-in-EsdsBox
 returns-in-EsdsBox g c = rw c.in-EsdsBox.is c.visit_declared-in-EsdsBox.ensures
 
+pub visit_declared-requires-in-FtabBox : goal.visit_declared-requires-in-FtabBox
+visit_declared-requires-in-FtabBox g c = rw c.in-FtabBox.is at c.requires
+
+pub returns-in-FtabBox : goal.returns-in-FtabBox
+returns-in-FtabBox g c = rw c.in-FtabBox.is c.visit_declared-in-FtabBox.ensures
+
 pub visit_declared-requires-in-GminBox : goal.visit_declared-requires-in-GminBox
 visit_declared-requires-in-GminBox g c = rw c.in-GminBox.is at c.requires
 
@@ -101,6 +107,12 @@ visit_declared-requires-in-TextBox g c = rw c.in-TextBox.is at c.requires
 
 pub returns-in-TextBox : goal.returns-in-TextBox
 returns-in-TextBox g c = rw c.in-TextBox.is c.visit_declared-in-TextBox.ensures
+
+pub visit_declared-requires-in-Tx3gBox : goal.visit_declared-requires-in-Tx3gBox
+visit_declared-requires-in-Tx3gBox g c = rw c.in-Tx3gBox.is at c.requires
+
+pub returns-in-Tx3gBox : goal.returns-in-Tx3gBox
+returns-in-Tx3gBox g c = rw c.in-Tx3gBox.is c.visit_declared-in-Tx3gBox.ensures
 
 pub visit_declared-requires-in-WvttBox : goal.visit_declared-requires-in-WvttBox
 visit_declared-requires-in-WvttBox g c = rw c.in-WvttBox.is at c.requires

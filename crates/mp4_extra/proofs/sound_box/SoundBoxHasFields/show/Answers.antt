@@ -48,6 +48,11 @@ returns-in-EsdsBox g c =
     same_events sound_types ghosts.declared g.K.FieldSink.trace g.K.FieldSink.after c.show-in-EsdsBox.result
     c.args.sink.now c.show-in-EsdsBox.new.sink c.args.view c.args.self.now _ c.in-EsdsBox.is c.show-in-EsdsBox.ensures
 
+pub returns-in-FtabBox : goal.returns-in-FtabBox
+returns-in-FtabBox g c =
+    same_events sound_types ghosts.declared g.K.FieldSink.trace g.K.FieldSink.after c.show-in-FtabBox.result
+    c.args.sink.now c.show-in-FtabBox.new.sink c.args.view c.args.self.now _ c.in-FtabBox.is c.show-in-FtabBox.ensures
+
 pub returns-in-GminBox : goal.returns-in-GminBox
 returns-in-GminBox g c =
     same_events sound_types ghosts.declared g.K.FieldSink.trace g.K.FieldSink.after c.show-in-GminBox.result
@@ -87,6 +92,11 @@ pub returns-in-TextBox : goal.returns-in-TextBox
 returns-in-TextBox g c =
     same_events sound_types ghosts.declared g.K.FieldSink.trace g.K.FieldSink.after c.show-in-TextBox.result
     c.args.sink.now c.show-in-TextBox.new.sink c.args.view c.args.self.now _ c.in-TextBox.is c.show-in-TextBox.ensures
+
+pub returns-in-Tx3gBox : goal.returns-in-Tx3gBox
+returns-in-Tx3gBox g c =
+    same_events sound_types ghosts.declared g.K.FieldSink.trace g.K.FieldSink.after c.show-in-Tx3gBox.result
+    c.args.sink.now c.show-in-Tx3gBox.new.sink c.args.view c.args.self.now _ c.in-Tx3gBox.is c.show-in-Tx3gBox.ensures
 
 pub returns-in-WvttBox : goal.returns-in-WvttBox
 returns-in-WvttBox g c =
