@@ -49,6 +49,9 @@ class Declared:
         source = " ".join(map(plain, [own, *others]))
         self.source = source
         self.types = {name: type_of(text) for name, text in re.findall(r"\btype (\w+) = ([^;]*);", source)}
+        # A type with the shape of another one.
+        same = r"impl Shape for (\w+) \{ type Value = [^;]*; ghost shape = \{ ⟦<(\w+) as Shape>⟧\.shape \};"
+        self.types.update((name, self.types[other]) for name, other in re.findall(same, source))
         name, owner = re.search(r"impl DeclaredBox for (\w+) .*? type Shape = (\w+);", source).groups()
         self.shape = self.types[owner]
         self.fields = self.fields_of(name)

@@ -1,7 +1,7 @@
 -- The events of descriptors (ISO/IEC 14496-1, 7.2.6), and of the configuration of MPEG-4 audio in one.
 use Rattle.std.proofs.Common.{refl}
-use Rattle.std.specs.Prelude.{ℕ, ◌/◌, ◌%◌, ◌==◌, ◌&&◌, nat_le, nat_lt, false, List, [], ◌∷◌, ◌++◌, Option, Some, None}
-use Rattle.std.specs.Prelude.{if◌then◌else◌, length, drop, slice_get}
+use Rattle.std.specs.Prelude.{ℕ, ◌/◌, ◌%◌, ◌==◌, ◌&&◌, nat_le, nat_lt, Bool, false, List, [], ◌∷◌, ◌++◌}
+use Rattle.std.specs.Prelude.{Option, Some, None, if◌then◌else◌, length, drop, slice_get}
 use Rattle.mp4_frame.specs.Bytes.{number}
 use Rattle.mp4_shown.specs.Event.{Event}
 use Rattle.mp4_shown.specs.Members.{AreMembers, members_append, members_if, whole_group, whole_number, whole_numbers}
@@ -32,11 +32,13 @@ layer_numbers xs =
 abbrev pub shown_fields : ℕ → List ℕ → List Event
 shown_fields rows xs = shown_numbers false LAYER.now (layer_numbers xs) ++ shown_run LAYER_REST rows (drop 16 xs)
 
+-- the numbers are present
+abbrev pub has_numbers : List ℕ → Bool
+has_numbers xs = nat_le 16 (length xs) && (number xs 0 1 == 0)
+
 -- what follows the number of a predefined configuration
 abbrev pub shown_rest : ℕ → List ℕ → List Event
-shown_rest rows xs =
-    if (number xs 0 1 == 0) && nat_le 16 (length xs) then shown_fields rows xs
-    else shown_run LAYER_REST rows (drop 1 xs)
+shown_rest rows xs = if has_numbers xs then shown_fields rows xs else shown_run LAYER_REST rows (drop 1 xs)
 
 abbrev pub shown_layer : ℕ → List ℕ → List Event
 shown_layer rows xs = shown_number PREDEFINED (number xs 0 1) ++ shown_rest rows xs
@@ -50,7 +52,7 @@ whole_content rows t xs =
     members_if ((t == 6) && nat_lt 0 (length xs)) (shown_layer rows xs) (shown_run CONTENT rows xs)
     (members_append (shown_number PREDEFINED (number xs 0 1)) (shown_rest rows xs)
     (whole_number PREDEFINED (number xs 0 1))
-    (members_if ((number xs 0 1 == 0) && nat_le 16 (length xs)) (shown_fields rows xs)
+    (members_if (has_numbers xs) (shown_fields rows xs)
     (shown_run LAYER_REST rows (drop 1 xs))
     (members_append (shown_numbers false LAYER.now (layer_numbers xs)) (shown_run LAYER_REST rows (drop 16 xs))
     (whole_numbers LAYER.now (layer_numbers xs)) (whole_run LAYER_REST rows (drop 16 xs)))

@@ -1,7 +1,8 @@
 //! The elementary stream descriptor box.
 
-ghost use Rattle.mp4_extra_media.specs.ShownDescriptors.{audio_bytes, layer_numbers, shown_content, shown_fields};
-ghost use Rattle.mp4_extra_media.specs.ShownDescriptors.{flags_of, lengths_of, shown_layer, whole_content};
+ghost use Rattle.mp4_extra_media.specs.ShownDescriptors.{audio_bytes, flags_of, has_numbers, layer_numbers};
+ghost use Rattle.mp4_extra_media.specs.ShownDescriptors.{lengths_of, shown_content, shown_fields, shown_layer};
+ghost use Rattle.mp4_extra_media.specs.ShownDescriptors.{whole_content};
 ghost use Rattle.mp4_extra_media.specs.declared.esds.TheConstants.{CONFIG, DESCRIPTOR_NAMES, ES, FLAG_WIDTHS};
 ghost use Rattle.mp4_extra_media.specs.declared.esds.TheConstants.{LAYER, NAMES, OPTIONS, STREAM_WIDTHS};
 ghost use Rattle.mp4_frame.specs.Bytes.{number};
@@ -11,7 +12,7 @@ ghost use Rattle.mp4_shown.specs.Lists.{entry_of};
 ghost use Rattle.mp4_shown.specs.Members.{whole_entry};
 ghost use Rattle.mp4_shown.specs.Numbers.{shown_numbers};
 ghost use Rattle.std.proofs.Common.{refl, lit<};
-ghost use Rattle.std.specs.Prelude.{◌≡◌, ◌≤◌, ◌+◌, false, if◌then◌else◌, OnOk, length};
+ghost use Rattle.std.specs.Prelude.{◌≡◌, ◌≤◌, ◌+◌, false, if◌then◌else◌, IsTrue, OnOk, length};
 ghost use Rattle.mp4_declared.specs.OwnBox.{layout_of};
 ghost use Rattle.mp4_declared.specs.DeclaredEntry.{exact_layout_of};
 ghost use Rattle.mp4_declared.specs.Layout.{packed, fields_of};
@@ -22,8 +23,8 @@ use crate::descriptors::{DescriptorTag, Expandable, Tagged};
 use crate::nested::Nested;
 use mp4_declared::{
     Bits, Bytes, Context, Declared, DeclaredBox, DeclaredEntry, EachToEnd, EntryLayout,
-    EntryVisitor, Full, If, IfFlags, Last, Rest, Shape, ShapeVisitor, U8, U16, U32, box_of,
-    clone_each, entry_of, numbers_of, parts_of,
+    EntryVisitor, Full, If, IfFlags, Last, PutShape, Rest, Shape, ShapeVisitor, U8, U16, U32,
+    box_of, clone_each, entry_of, numbers_of, parts_of,
 };
 use mp4_frame::{Entries, Result, TryClone, codes, u8_at, u16_at, u32_at};
 use mp4_shown::{
@@ -31,6 +32,7 @@ use mp4_shown::{
     ShownEntry, VERSION, View, list, names_of, number, put_bytes, put_number, put_numbers, run,
     show_shape,
 };
+use std::alloc::Global;
 
 /// A descriptor that stays raw bytes (ISO/IEC 14496-1, 7.2.2.2).
 #[derive(Debug, Drop, PartialEq, Eq)]
@@ -158,14 +160,21 @@ fn put_layer_fields<K: FieldSink>(rows: usize, bytes: &[u8], sink: &mut K) -> mp
     put_bytes(LAYER_REST, rows, &bytes[16..], sink)
 }
 
+/// Returns whether `bytes` have the numbers of a configuration that isn't predefined.
+fn has_numbers(bytes: &[u8]) -> bool
+    ensures value { result ≡ has_numbers bytes.now }
+    ensures long { IsTrue result → 16 ≤ length bytes.now }
+{
+    16 <= bytes.len() && u8_at(bytes, 0) == 0
+}
+
 /// Hands a configuration of the synchronization layer to a sink.
 fn put_layer<K: FieldSink>(rows: usize, bytes: &[u8], sink: &mut K) -> mp4_shown::Result<()>
     requires { 1 ≤ length bytes.now }
     ensures { OnOk result (Hands K.trace K.after sink.old (shown_layer rows bytes.now) sink.new) }
 {
-    let predefined = u8_at(bytes, 0);
-    put_number(PREDEFINED, u64::from(predefined), sink)?;
-    if predefined == 0 && 16 <= bytes.len() {
+    put_number(PREDEFINED, u64::from(u8_at(bytes, 0)), sink)?;
+    if has_numbers(bytes) {
         put_layer_fields(rows, bytes, sink)
     } else {
         put_bytes(LAYER_REST, rows, &bytes[1..], sink)
@@ -689,16 +698,67 @@ pub struct EsDescriptor {
     pub descriptors: Entries<Descriptor>,
 }
 
-/// The layout of the descriptor: a tag, a size, a number, options, the configuration of the decoder, and descriptors.
-pub type EsDescriptorShape = Tagged<
-    EsTag,
-    (
-        U16,
-        Nested<EsOptions>,
-        Nested<DecoderConfig>,
-        Last<EachToEnd<Descriptor>>,
-    ),
->;
+/// The layout of the parts after the size: a number, options, the configuration of the decoder, and descriptors.
+type EsParts = (
+    U16,
+    Nested<EsOptions>,
+    Nested<DecoderConfig>,
+    Last<EachToEnd<Descriptor>>,
+);
+
+/// The parts of an elementary stream descriptor after its size. It is a type of its own to keep proofs short.
+pub struct EsContent;
+
+impl Shape for EsContent {
+    type Value = (u16, (EsOptions, (DecoderConfig, (Entries<Descriptor>, ()))));
+
+    ghost shape = { ⟦<EsParts as Shape>⟧.shape };
+
+    ghost shape_laws = { ⟦<EsParts as Shape>⟧.shape_laws };
+
+    fn is_fixed() -> bool {
+        EsParts::is_fixed()
+    }
+
+    fn front(context: Context) -> usize {
+        EsParts::front(context)
+    }
+
+    fn read(
+        alloc: Global,
+        bytes: &[u8],
+        at: usize,
+        end: u64,
+        context: Context,
+    ) -> Result<(<EsContent as Shape>::Value, usize)> {
+        EsParts::read(alloc, bytes, at, end, context)
+    }
+}
+
+/// The parts after the size, as they are written.
+type EsView<'a> = (
+    u16,
+    (&'a EsOptions, (&'a DecoderConfig, (&'a [Descriptor], ()))),
+);
+
+impl<'a> PutShape<EsView<'a>> for EsContent {
+    ghost content = { λ v. (v.0, (v.1.0.now, (v.1.1.0.now, (v.1.1.1.0.now, tt)))) };
+
+    fn size(context: Context, value: EsView<'a>) -> u64 {
+        EsParts::size(context, value)
+    }
+
+    fn fits(context: Context, value: EsView<'a>) -> bool {
+        EsParts::fits(context, value)
+    }
+
+    fn put(out: &mut [u8], at: usize, context: Context, value: EsView<'a>) -> usize {
+        EsParts::put(out, at, context, value)
+    }
+}
+
+/// The layout of the descriptor: a tag, a size, and parts.
+pub type EsDescriptorShape = Tagged<EsTag, EsContent>;
 
 impl DeclaredEntry for EsDescriptor {
     ghost use Rattle.mp4_extra_media.specs.contracts.esds.EsDescriptor.{struct};
@@ -714,7 +774,8 @@ impl DeclaredEntry for EsDescriptor {
     fn visit<Q: EntryVisitor<Self::Shape>>(&self, question: Q, out: &mut [u8]) -> Q::Answer {
         let options = &self.options;
         let config = &self.decoder_config;
-        let parts = parts_of!(self => size_bytes, es_id, = options, = config, descriptors.as_slice());
+        let parts =
+            parts_of!(self => size_bytes, es_id, = options, = config, descriptors.as_slice());
         question.visit(parts, out)
     }
 
