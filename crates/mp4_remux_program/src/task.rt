@@ -1,5 +1,11 @@
 //! The tasks of the program, each with a file.
 
+ghost use Rattle.std.specs.Prelude.{◌≡◌, Some, IfSome};
+ghost use Rattle.mp4_remux.specs.declared.forms.form.Form.TheVariants as forms;
+ghost use Rattle.mp4_remux_program.specs.Tasks.{DoesTask, MovedOrCopied};
+ghost use Rattle.mp4_remux_program.specs.WrittenEdits.{WroteChanges};
+ghost use Rattle.mp4_remux_program.specs.WrittenForms.{WroteOtherForm};
+
 use crate::movement::Move;
 use crate::refusal::Stop;
 use crate::write::write_fast_start;
@@ -7,7 +13,7 @@ use crate::write_edit::write_edited;
 use crate::write_forms::{write_fragments, write_tables};
 use mp4_io::Output;
 use mp4_remux::edits::{Shortcut, edits_of};
-use mp4_remux::forms::{FragmentOptions, plan_fragments, plan_tables};
+use mp4_remux::forms::{Defragmented, FragmentOptions, Fragmented, plan_fragments, plan_tables};
 use mp4_walk::Source;
 use std::alloc::Global;
 use std::fmt;
@@ -81,67 +87,115 @@ fn fast_start<S: Source, T: Source, W: Write>(
     first: S,
     second: T,
     output: &mut Output<W>,
-) -> Result<Done, Stop> {
-    match write_fast_start(alloc, first, second, output)? {
-        Some(moved) => Ok(Done::Moved(moved)),
-        None => Ok(Done::Copied),
+) -> Result<Done, Stop>
+    ensures { IfSome (S.all first) (λ B. T.all second ≡ Some B
+        → MovedOrCopied B (W.contents output.old.inner) (W.contents output.new.inner) result) }
+{
+    match write_fast_start(alloc, first, second, output) {
+        Ok(Some(moved)) => Ok(Done::Moved(moved)),
+        Ok(None) => Ok(Done::Copied),
+        Err(stop) => Err(stop),
     }
 }
 
-/// Writes the file `first` with `changes`. `second` is the same file.
-fn edit<S: Source, T: Source, W: Write>(
+/// Writes the file `first` with `changes`. `second` is the same file, and so is `third`, in which the changes find
+/// their edits.
+fn edit<S: Source, T: Source, P: Source, W: Write>(
     alloc: Global,
     changes: Vec<Shortcut>,
-    first: &mut S,
+    first: S,
     second: T,
+    third: P,
     output: &mut Output<W>,
-) -> Result<Done, Stop> {
+) -> Result<Done, Stop>
+    ensures { IfSome (S.all first) (λ B. T.all second ≡ Some B
+        → WroteChanges B changes.items (W.contents output.old.inner) (W.contents output.new.inner) result) }
+{
     let count = changes.len();
-    let edits = edits_of(alloc, &mut *first, changes)?;
-    write_edited(alloc, first, second, &edits, output)?;
-    Ok(Done::Edited(count))
+    let edits = match edits_of(alloc, third, changes) {
+        Ok(edits) => edits,
+        Err(stop) => return Err(Stop::from(stop)),
+    };
+    match write_edited(alloc, first, second, &edits, output) {
+        Ok(()) => Ok(Done::Edited(count)),
+        Err(stop) => Err(stop),
+    }
 }
 
-/// Writes the file `first` with its samples in fragments. `second` is the same file.
-fn fragment<S: Source, T: Source, W: Write>(
+/// Writes the file `first` with its samples in fragments. `second` is the same file, and so is `third`, which is read
+/// to plan the fragments.
+fn fragment<S: Source, T: Source, P: Source, W: Write>(
     alloc: Global,
     options: FragmentOptions,
-    first: &mut S,
+    first: S,
     second: T,
+    third: P,
     output: &mut Output<W>,
-) -> Result<Done, Stop> {
-    let fragmented = plan_fragments(alloc, &mut *first, options)?;
-    write_fragments(alloc, first, second, &fragmented.plan, output)?;
-    Ok(Done::Fragmented(fragmented.parts.len()))
+) -> Result<Done, Stop>
+    ensures { IfSome (S.all first) (λ B. T.all second ≡ Some B
+        → WroteOtherForm forms.Fragments B (W.contents output.old.inner) (W.contents output.new.inner) result) }
+{
+    let fragmented = match plan_fragments(alloc, third, options) {
+        Ok(fragmented) => fragmented,
+        Err(stop) => return Err(Stop::from(stop)),
+    };
+    let Fragmented {
+        plan,
+        init_length: _,
+        scale: _,
+        parts,
+    } = fragmented;
+    match write_fragments(alloc, first, second, plan, output) {
+        Ok(()) => Ok(Done::Fragmented(parts.len())),
+        Err(stop) => Err(stop),
+    }
 }
 
-/// Writes the file `first` with its samples in tables. `second` is the same file.
-fn defragment<S: Source, T: Source, W: Write>(
+/// Writes the file `first` with its samples in tables. `second` is the same file, and so is `third`, which is read to
+/// plan the tables.
+fn defragment<S: Source, T: Source, P: Source, W: Write>(
     alloc: Global,
-    first: &mut S,
+    first: S,
     second: T,
+    third: P,
     output: &mut Output<W>,
-) -> Result<Done, Stop> {
-    let joined = plan_tables(alloc, &mut *first)?;
-    write_tables(alloc, first, second, &joined.plan, output)?;
-    Ok(Done::Joined {
-        fragments: joined.fragments,
-        samples: joined.samples,
-    })
+) -> Result<Done, Stop>
+    ensures { IfSome (S.all first) (λ B. T.all second ≡ Some B
+        → WroteOtherForm forms.Tables B (W.contents output.old.inner) (W.contents output.new.inner) result) }
+{
+    let joined = match plan_tables(alloc, third) {
+        Ok(joined) => joined,
+        Err(stop) => return Err(Stop::from(stop)),
+    };
+    let Defragmented {
+        plan,
+        fragments,
+        samples,
+    } = joined;
+    match write_tables(alloc, first, second, plan, output) {
+        Ok(()) => Ok(Done::Joined { fragments, samples }),
+        Err(stop) => Err(stop),
+    }
 }
 
 /// Carries out `task` with the file `first`. `second` is the same file, since the old and the new file are compared.
-pub(crate) fn carry_out<S: Source, T: Source, W: Write>(
+/// `third` is the same file, too: it is read to plan the new file. No clause speaks of it, since it does not matter how
+/// a plan was made.
+pub(crate) fn carry_out<S: Source, T: Source, P: Source, W: Write>(
     alloc: Global,
     task: Task,
-    first: &mut S,
+    first: S,
     second: T,
+    third: P,
     output: &mut Output<W>,
-) -> Result<Done, Stop> {
+) -> Result<Done, Stop>
+    ensures { IfSome (S.all first) (λ B. T.all second ≡ Some B
+        → DoesTask task B (W.contents output.old.inner) (W.contents output.new.inner) result) }
+{
     match task {
         Task::FastStart => fast_start(alloc, first, second, output),
-        Task::Edit(changes) => edit(alloc, changes, first, second, output),
-        Task::Fragment(options) => fragment(alloc, options, first, second, output),
-        Task::Defragment => defragment(alloc, first, second, output),
+        Task::Edit(changes) => edit(alloc, changes, first, second, third, output),
+        Task::Fragment(options) => fragment(alloc, options, first, second, third, output),
+        Task::Defragment => defragment(alloc, first, second, third, output),
     }
 }
