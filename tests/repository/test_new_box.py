@@ -6,7 +6,7 @@ fields in the slow reader, and its rows are below. In each other file of the cra
 of the lines of an existing box, with the names of the new one. A file that the page doesn't name is left unchanged, so
 a step that is missing there fails here. The test proves nothing, and takes some minutes.
 
-It counts the lists in src/, specs/ and proofs/ that get an entry, and the lines that the box takes: those of src/ and
+It counts the lists in src/ and specs/ that get an entry, and the lines that the box takes: those of src/ and
 specs/, after `rt fmt`, that are neither blank nor comments. More than MOST_LISTS or MOST is a failure.
 
 With TEST_KEEP=FOLDER the copy is made in that folder, and stays.
@@ -29,7 +29,7 @@ NEW = "padb"
 # The box whose lines are copied.
 LIKE = "mfro"
 # The largest number of lists of the crates, besides that of the codes, that a box may need an entry in.
-MOST_LISTS = 10
+MOST_LISTS = 9
 # The largest number of lines of code and definitions that a box of a few numbers may take.
 MOST = 70
 # The function of the slow reader that reads the fields.
@@ -174,16 +174,9 @@ def with_copies(text):
     return "".join(pieces), copies
 
 
-def with_answers(text):
-    """Returns `text`, a file of proofs, with an answer for the new box after each answer of the old box, and 1 if it
-    has some."""
-    answers = text.split("\n\n")
-    return "\n\n".join(it if names(it) == it else f"{it}\n\n{names(it)}" for it in answers), text != names(text)
-
-
 def add(folder):
-    """Adds the box in a copy. Returns the files that were touched, and the number of lists in src/, specs/ and proofs/
-    that got an entry."""
+    """Adds the box in a copy. Returns the files that were touched, and the number of lists in src/ and specs/ that got
+    an entry."""
     touched, lists = [], 0
     for file in files():
         path = os.path.join(folder, file)
@@ -198,10 +191,10 @@ def add(folder):
         elif file.startswith("crates/"):
             with open(path, encoding="utf-8") as old:
                 before = old.read()
-            text, copies = (with_answers if "/proofs/" in file else with_copies)(before)
+            text, copies = with_copies(before)
             if not copies or f"pub const {NEW.upper()}: u32" in before:
                 continue
-            lists += copies if re.search(r"/(src|specs|proofs)/", file) else 0
+            lists += copies if re.search(r"/(src|specs)/", file) else 0
         else:
             continue
         with open(path, "w", encoding="utf-8") as new:

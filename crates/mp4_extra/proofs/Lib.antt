@@ -1,1 +1,1 @@
-pub mod EqualTypes
+pub mod EqualBoxes

@@ -1,10 +1,11 @@
 //! What the enums of this crate need of a declared box.
 
-ghost use Rattle.std.specs.Prelude.{◌≡◌, ℕ, ◌+◌, ◌-◌, ◌≤◌, List, OnOk, OnErr, length, max};
-ghost use Rattle.mp4_frame.specs.Members.{some_box};
+ghost use Rattle.std.specs.Prelude.{◌≡◌, ℕ, ◌+◌, ◌-◌, ◌≤◌, List, Result, OnOk, OnErr, length, max};
+ghost use Rattle.mp4_frame.specs.declared.error.Error.{Error};
+ghost use Rattle.mp4_frame.specs.Members.{Is, reading_known, some_box};
 ghost use Rattle.mp4_frame.specs.Reading.{Answers, map_reading, reading};
 ghost use Rattle.mp4_extra.specs.Catalogue.{Catalogue, Declaration, Declarations, declared_as, format_as, inside};
-ghost use Rattle.mp4_extra.specs.Catalogue.{reads_as, shown};
+ghost use Rattle.mp4_extra.specs.Catalogue.{kind_of, reads_as, shown};
 ghost use Rattle.mp4_shown.specs.Hands.{Hands};
 
 use mp4_declared::{Declared, DeclaredBox};
@@ -97,6 +98,31 @@ pub(crate) fn read_declared<T: DeclaredBox + HasFields, E: Holds<Declared<T>>>(
     ensures bytes { reader.new.bytes ≡ reader.old.bytes }
 {
     read_as::<Declared<T>, E>(alloc, reader, size)
+}
+
+/// Reads a box of type `_of`, which the arm names `_named`, like `read_as`. An arm that calls it needs no proof of its
+/// own.
+#[inline]
+pub(crate) fn read_held<T: DeclaredBox + HasFields, E: Catalogued + Holds<Declared<T>>>(
+    _of: E::Of,
+    _named: E::Of,
+    alloc: Global,
+    reader: &mut ByteCursor,
+    size: u64,
+) -> Result<E>
+    requires after_header { 8 ≤ reader.old.position }
+    requires is { _of ≡ _named }
+    requires alike { (r : Result E Error) → Answers r (map_reading E.wrapped
+        (reading (reads_as ⟦<T as Described>⟧.declaration) reader.old.bytes.now (reader.old.position - 8) size))
+        → Answers r (reading_known (Is (kind_of E.catalogue E.declared _named)) reader.old.bytes.now
+        (reader.old.position - 8) size) }
+    ensures answer { Answers result (reading_known (Is (kind_of E.catalogue E.declared _of))
+        reader.old.bytes.now (reader.old.position - 8) size) }
+    ensures moved { OnOk result (reader.new.position ≡ reader.old.position - 8 + max 0 size) }
+    ensures kept { OnErr result (reader.new.position ≡ reader.old.position) }
+    ensures bytes { reader.new.bytes ≡ reader.old.bytes }
+{
+    read_declared::<T, E>(alloc, reader, size)
 }
 
 /// Prints a variant with this `name` and the box `value` inside.

@@ -31,9 +31,10 @@ macro_rules! by_code {
 
 /// Matches on a type with an arm for each type, which reads a box of this type as a value of `$enum`.
 macro_rules! by_type {
-    ([$($fields:ident $held:ident $($code:ident)::+),*] $types:ident, $enum:ident, $of:expr, $values:tt) => {
+    ([$($fields:ident $held:ident $($code:ident)::+),*] $types:ident, $enum:ident, $of:expr, $alloc:expr, $reader:expr,
+        $size:expr) => {
         match $of {
-            $($types::$held => read_declared::<$fields, $enum> $values,)*
+            $($types::$held => read_held::<$fields, $enum>($of, $types::$held, $alloc, $reader, $size),)*
         }
     };
 }

@@ -12,9 +12,7 @@ ghost use Rattle.mp4_extra.specs.declared.sample_box.SampleType.TheVariants as t
 ghost use Rattle.mp4_extra.specs.declared.sample_box.SampleBox.TheVariants as boxes;
 
 use super::*;
-use crate::declarations::{
-    Catalogued, Described, print_variant, read_declared, show_held, visit_held,
-};
+use crate::declarations::{Catalogued, Described, print_variant, read_held, show_held, visit_held};
 use mp4_compose::CodedEnum;
 use mp4_frame::{
     BoxEnum, BoxType, BoxVisitor, ByteCursor, Holds, Result, TryClone, clone_as, codes,
@@ -151,7 +149,7 @@ fn read_of(of: SampleType, alloc: Global, reader: &mut ByteCursor, size: u64) ->
     ensures kept { OnErr result (reader.new.position ≡ reader.old.position) }
     ensures bytes { reader.new.bytes ≡ reader.old.bytes }
 {
-    of_boxes!(by_type, SampleType, SampleBox, of, (alloc, reader, size))
+    of_boxes!(by_type, SampleType, SampleBox, of, alloc, reader, size)
 }
 
 impl BoxEnum for SampleBox {

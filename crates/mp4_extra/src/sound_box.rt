@@ -12,9 +12,7 @@ ghost use Rattle.mp4_extra.specs.declared.sound_box.SoundType.TheVariants as typ
 ghost use Rattle.mp4_extra.specs.declared.sound_box.SoundBox.TheVariants as boxes;
 
 use super::*;
-use crate::declarations::{
-    Catalogued, Described, print_variant, read_declared, show_held, visit_held,
-};
+use crate::declarations::{Catalogued, Described, print_variant, read_held, show_held, visit_held};
 use mp4_compose::CodedEnum;
 use mp4_extra_media::ftab;
 use mp4_frame::{
@@ -168,7 +166,7 @@ fn read_of(of: SoundType, alloc: Global, reader: &mut ByteCursor, size: u64) -> 
     ensures kept { OnErr result (reader.new.position ≡ reader.old.position) }
     ensures bytes { reader.new.bytes ≡ reader.old.bytes }
 {
-    of_boxes!(by_type, SoundType, SoundBox, of, (alloc, reader, size))
+    of_boxes!(by_type, SoundType, SoundBox, of, alloc, reader, size)
 }
 
 impl BoxEnum for SoundBox {

@@ -12,9 +12,7 @@ ghost use Rattle.mp4_extra.specs.declared.track_box.TrackType.TheVariants as typ
 ghost use Rattle.mp4_extra.specs.declared.track_box.TrackBox.TheVariants as boxes;
 
 use super::*;
-use crate::declarations::{
-    Catalogued, Described, print_variant, read_declared, show_held, visit_held,
-};
+use crate::declarations::{Catalogued, Described, print_variant, read_held, show_held, visit_held};
 use mp4_compose::CodedEnum;
 use mp4_frame::{
     BoxEnum, BoxType, BoxVisitor, ByteCursor, Holds, Result, TryClone, clone_as, codes,
@@ -163,7 +161,7 @@ fn read_of(of: TrackType, alloc: Global, reader: &mut ByteCursor, size: u64) -> 
     ensures kept { OnErr result (reader.new.position ≡ reader.old.position) }
     ensures bytes { reader.new.bytes ≡ reader.old.bytes }
 {
-    of_boxes!(by_type, TrackType, TrackBox, of, (alloc, reader, size))
+    of_boxes!(by_type, TrackType, TrackBox, of, alloc, reader, size)
 }
 
 impl BoxEnum for TrackBox {
