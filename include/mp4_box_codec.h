@@ -716,14 +716,14 @@ uint32_t mp4_find(const uint8_t *bytes, size_t length, const uint8_t *path, size
 
 /* Writes the fields of the box at the front of the bytes as the text of a JSON object (RFC 8259), like `mp4inspect
    --json`. It reads all boxes for which there is a function, such as mp4_mvhd. It also reads alac, alis, auxC, av1C,
-   btrt, chan, chnl, clap, clli, colr, cslg, dac3, dec3, dfLa, dOps, dvcC, dvvC, elng, enda, fiel, frma, gmin, hmhd,
-   iloc, imir, infe, iods, ipma, irot, ispe, keys, kind, leva, mdcv, mean, mfro, name, nmhd, pasp, pitm, pixi, prft,
-   pssh, saio, saiz, sbgp, schm, sdtp, senc, sgpd, sidx, srat, ssix, sthd, stpp, styp, stz2, subs, tcmi, tenc, text,
-   tfra, tref, urn, vvcC and wvtt. It sees only the code of a box. So it also reads other boxes as these: an alac in an
-   stsd, a text outside of a gmhd, a mean or a name outside of a ----. Fields have the names of the standards. A number
-   may have 64 bits. A code of four characters is a text, with a character for the number of each byte. Bytes are a text
-   of hexadecimal digits. A fixed-point number is a number with a fraction. Texts have U+FFFD for each part that is not
-   UTF-8.
+   btrt, chan, chnl, clap, clli, colr, cslg, dac3, dec3, dfLa, dOps, dvcC, dvvC, elng, enda, fiel, frma, ftab, gmin,
+   hmhd, iloc, imir, infe, iods, ipma, irot, ispe, keys, kind, leva, mdcv, mean, mfro, name, nmhd, pasp, pitm, pixi,
+   prft, pssh, saio, saiz, sbgp, schm, sdtp, senc, sgpd, sidx, srat, ssix, sthd, stpp, styp, stz2, subs, tcmi, tenc,
+   text, tfra, tref, urn, vvcC and wvtt. It sees only the code of a box. So it also reads other boxes as these: an alac
+   in an stsd, a text outside of a gmhd, a mean or a name outside of a ----. Fields have the names of the standards. A
+   number may have 64 bits. A code of four characters is a text, with a character for the number of each byte. Bytes are
+   a text of hexadecimal digits. A fixed-point number is a number with a fraction. Texts have U+FFFD for each part that
+   is not UTF-8.
    Needs: a whole box at the front of `bytes`, and `places` places at `text`.
    Returns: MP4_OK, MP4_NO_ROOM or a fault; MP4_UNKNOWN_BOX for a box of another type, whether it is whole or not.
    Leaves: the text in `text`, as UTF-8 without a zero after it, and the number of its bytes in `count`. */

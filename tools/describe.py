@@ -446,6 +446,31 @@ def colours(walk):
         {**field, "when": f"{names[0]} is nclx" + ("" if field in full else " or nclc")} for field in found] + others
 
 
+def elementary_stream(walk):
+    """Returns the fields of an `esds`. In its shape the flags of the stream stand for its first three bits."""
+    found = walk.fields(walk.source.types["EsdsShape"], walk.source.constant("NAMES"))
+    flags = {"flags & 0x4": "streamDependenceFlag is 1", "flags & 0x2": "URL_Flag is 1",
+             "flags & 0x1": "OCRstreamFlag is 1"}
+    return [{**field, "when": flags[field["when"]]} if "when" in field else field for field in found]
+
+
+def audio(*_):
+    source = next(it for it in sources() if it.path.endswith("/audio_config.rt"))
+    config = numbers(source.constant("AUDIO"), (7, 4, 24, 4))
+    # A field that isn't signalled has a number that these bits don't have.
+    extension = [{key: it for key, it in field.items() if key != "usual"}
+                 for field in numbers(source.constant("EXTENSION"), (3, 1, 1, 4, 24))]
+    name = source.constant("AUDIO_NAME")
+    return [{"name": name, "kind": "group", "fields": config + extension, "optional": True}]
+
+
+def descriptor_content(walk, _):
+    constant = walk.source.constant
+    layer = numbers(constant("LAYER"), (1,) * 8 + (32, 32, 8, 8, 8, 8, 4, 5, 5, 2))
+    return [*under("tag is 6", number(constant("PREDEFINED"), 8)),
+            *under("tag is 6 and predefined is 0", layer), *optional(run(constant("CONTENT")))]
+
+
 def channel_mapping(_, names):
     streams, (coupled, (channels, too_few)) = names
     return optional(number(streams, 8) + number(coupled, 8) + run(channels) + run(too_few))
@@ -526,12 +551,19 @@ OWN = {
     "ProtectionSystem": protection_system,
     "ChannelMapping": channel_mapping, "BlockData": flac_block_data, "Country": locale, "Language": locale,
     "TypedValue": typed_value, "SampleSizes": sample_sizes,
+    "AudioShown": audio, "DescriptorContent": descriptor_content,
 }
 PIECES = {"Streams": streams, "Accesses": accesses, "Descriptions": descriptions}
-BOXES = {"Colr": colours}
+BOXES = {"Colr": colours, "Esds": elementary_stream}
 
 
 # ---- Boxes
+
+
+def code_of(source):
+    """Returns the code of the box that a file declares. A code that only this box has is a constant of the file."""
+    shared, own = re.search(r"const CODE: u32 = (codes::)?(\w+);", source.text).groups()
+    return codes()[own] if shared else source.constant(own).to_bytes(4, "big").decode("latin-1")
 
 
 def box_in(source):
@@ -540,7 +572,7 @@ def box_in(source):
     if not declared:
         return None
     name = declared[1]
-    code = codes()[re.search(r"const CODE: u32 = codes::(\w+);", source.text)[1]]
+    code = code_of(source)
     told = re.search(rf"((?:^/// .*\n)+)(?:^#.*\n)*^pub struct {name}\b", source.raw, re.M)[1]
     comment = " ".join(line[4:] for line in told.splitlines())
     title, section = re.match(r"(.*?) \(`[^`]*`, ([^)]*)\)", comment).groups()
@@ -557,10 +589,15 @@ def box_in(source):
     return {"code": code, "title": title, "standard": section, "source": source.path, "type": alias, "fields": fields}
 
 
+def is_held(box):
+    """Returns whether an `ExtraBox` holds the box."""
+    return any(re.search(rf"\b{box['type']}\b", read(path)) for path in paths("crates/mp4_extra/src/*_box.rt"))
+
+
 @functools.lru_cache(maxsize=None)
 def boxes():
-    """Returns the descriptions of all boxes, by their code."""
-    found = [box for source in (Source(path) for path in paths(SOURCES)) if (box := box_in(source))]
+    """Returns the descriptions of the boxes that an `ExtraBox` holds, by their code."""
+    found = [box for source in (Source(path) for path in paths(SOURCES)) if (box := box_in(source)) and is_held(box)]
     return sorted(found, key=lambda box: box["code"].lower())
 
 

@@ -136,7 +136,7 @@ class Described:
             return f"List[{self.type_of(field['of_kind'], owner)}]"
         if kind in ("list", "group"):
             inside = field["entries"] if kind == "list" else field["fields"]
-            name = owner + "".join(part[:1].upper() + part[1:] for part in field["name"].split("_"))
+            name = owner + "".join(part[:1].upper() + part[1:] for part in re.split("[-_]", field["name"]))
             words = f"{'An entry' if kind == 'list' else 'The members'} of `{field['name']}`."
             self.add(name, "Part", words, inside, [])
             return f"List[{name}]" if kind == "list" else name

@@ -38,7 +38,8 @@ NONE, PLAIN = "no track has samples", "the file is not fragmented"
 REFUSED = {
     "fragment": {
         "broken": "there is another moov at 42", "counted": NONE, "decoders": "there is no moov",
-        "fragmented": "mvex at 152: the file is fragmented already", "fragments": "there is another moov at 412",
+        "descriptors": "there is no moov", "fragmented": "mvex at 152: the file is fragmented already",
+        "fragments": "there is another moov at 412",
         "groups": "subs at 1147: what it says of samples can't be kept", "hevc": "there is no moov", "indexed": NONE,
         "newer": "trak 1 at 207: there is no stsz", "pictures": "trak 1 at 148: there is no stco",
         "plain": "trak 1 at 140: sample 1 at 1024, of 1 bytes, is not in the file", "quicktime": NONE,
@@ -48,10 +49,10 @@ REFUSED = {
     },
     "defragment": {
         "broken": "there is another moov at 42", "counted": PLAIN, "decoders": "there is no moov",
-        "fragmented": "trak 1 at 208: there is no mdhd", "fragments": "there is another moov at 412", "groups": PLAIN,
-        "hevc": "there is no moov", "indexed": PLAIN, "newer": PLAIN, "pictures": PLAIN, "plain": PLAIN,
-        "quicktime": PLAIN, "segments": "there is no trex", "signs": PLAIN, "sounds": PLAIN, "subtitles": PLAIN,
-        "tables": PLAIN, "texts": PLAIN, "titles": PLAIN,
+        "descriptors": "there is no moov", "fragmented": "trak 1 at 208: there is no mdhd",
+        "fragments": "there is another moov at 412", "groups": PLAIN, "hevc": "there is no moov", "indexed": PLAIN,
+        "newer": PLAIN, "pictures": PLAIN, "plain": PLAIN, "quicktime": PLAIN, "segments": "there is no trex",
+        "signs": PLAIN, "sounds": PLAIN, "subtitles": PLAIN, "tables": PLAIN, "texts": PLAIN, "titles": PLAIN,
     },
 }
 UNKEPT = "what it says of samples can't be kept"

@@ -1,7 +1,7 @@
 """The part of the slow reader for boxes other than those of the codec. It has their fields as mp4inspect shows them,
-under the names of the standards, and as the struct has them. It follows ISO/IEC 14496-12, 14496-14, 14496-15, 14496-30,
-23001-7, 23008-12, ETSI TS 102 366, QuickTime's format, iTunes, and the bindings of AV1, Opus, FLAC, VP8 and VP9, Apple
-Lossless and Dolby Vision, in the sections that crates/mp4_extra/CALLING.md names.
+under the names of the standards, and as the struct has them. It follows ISO/IEC 14496-1, 14496-3, 14496-12, 14496-14,
+14496-15, 14496-30, 23001-7, 23008-12, 3GPP TS 26.245, ETSI TS 102 366, QuickTime's format, iTunes, and the bindings of
+AV1, Opus, FLAC, VP8 and VP9, Apple Lossless and Dolby Vision, in the sections that crates/mp4_extra/CALLING.md names.
 """
 
 from tests.readers.headers import Fault, check
@@ -163,6 +163,24 @@ class Content:
         self.at = inner.at
         self.written += inner.written
         return inner.fields
+
+    def expandable(self, read):
+        """Reads an expandable size (ISO/IEC 14496-1, 8.3.3), and fields that end where it says with the function
+        `read`. Returns the number of bytes of the size, and the fields."""
+        size = count = 0
+        byte = 128
+        while byte >= 128:
+            byte, count = self.number(1), count + 1
+            check(byte < 128 or count < 4, "size of a descriptor has more than four bytes")
+            size = size * 128 + byte % 128
+        inner = Content(self.data, self.at + size, self.raw)
+        inner.at = self.at
+        check(inner.end <= self.end, "size of an entry is too small or too large")
+        read(inner)
+        check(inner.at == inner.end, "size of an entry is too small or too large")
+        self.at = inner.at
+        self.written += inner.written
+        return count, inner.fields
 
     def entries(self, name, count, entry):
         """Reads a list of `count` entries. The function `entry` reads each from its front. Returns whether all of them
@@ -543,6 +561,185 @@ def hmhd(c):
     c.full(1)
     c.numbers("2 maxPDUsize, 2 avgPDUsize, 4 maxbitrate, 4 avgbitrate")
     c.reserved(4)
+
+
+# The names of tags, object types, kinds of streams and predefined configurations (ISO/IEC 14496-1, 7.2.2.1, 7.2.6.6.2
+# and 7.3.2.3.2).
+TAGS = {
+    1: "ObjectDescriptor", 2: "InitialObjectDescriptor", 3: "ES_Descriptor", 4: "DecoderConfigDescriptor",
+    5: "DecoderSpecificInfo", 6: "SLConfigDescriptor", 7: "ContentIdentificationDescriptor",
+    8: "SupplementaryContentIdentificationDescriptor", 9: "IPI_DescrPointer", 10: "IPMP_DescriptorPointer",
+    11: "IPMP_Descriptor", 12: "QoS_Descriptor", 13: "RegistrationDescriptor", 14: "ES_ID_Inc", 15: "ES_ID_Ref",
+    20: "ProfileLevelIndicationIndexDescriptor", 67: "LanguageDescriptor"}
+OBJECT_TYPES = {
+    0x01: "Systems", 0x02: "Systems 2", 0x20: "MPEG-4 Visual", 0x21: "H.264", 0x22: "H.264 parameter sets",
+    0x23: "HEVC", 0x40: "MPEG-4 Audio", 0x60: "MPEG-2 Visual Simple", 0x61: "MPEG-2 Visual Main",
+    0x62: "MPEG-2 Visual SNR", 0x63: "MPEG-2 Visual Spatial", 0x64: "MPEG-2 Visual High",
+    0x65: "MPEG-2 Visual 4:2:2", 0x66: "MPEG-2 AAC Main", 0x67: "MPEG-2 AAC LC", 0x68: "MPEG-2 AAC SSR",
+    0x69: "MPEG-2 Audio", 0x6A: "MPEG-1 Visual", 0x6B: "MPEG-1 Audio", 0x6C: "JPEG", 0x6D: "PNG", 0x6E: "JPEG 2000",
+    0xA0: "EVRC", 0xA1: "SMV", 0xA3: "VC-1", 0xA4: "Dirac", 0xA5: "AC-3", 0xA6: "Enhanced AC-3", 0xA9: "DTS",
+    0xAD: "Opus", 0xDD: "Vorbis", 0xE1: "QCELP"}
+STREAM_TYPES = {
+    1: "object descriptors", 2: "clock references", 3: "scene description", 4: "visual", 5: "audio", 6: "MPEG-7",
+    7: "IPMP", 8: "object content information", 9: "MPEG-J", 10: "interaction", 11: "IPMP tool"}
+PREDEFINED = {0: "custom", 1: "null SL packet header", 2: "MP4 file"}
+# The names of object types and channel configurations, and the sampling frequencies (ISO/IEC 14496-3, 1.5.1.1, 1.6.3.5
+# and 1.6.3.4).
+AUDIO_TYPES = {
+    1: "AAC Main", 2: "AAC LC", 3: "AAC SSR", 4: "AAC LTP", 5: "SBR", 6: "AAC Scalable", 7: "TwinVQ", 8: "CELP",
+    9: "HVXC", 17: "ER AAC LC", 19: "ER AAC LTP", 20: "ER AAC Scalable", 22: "ER BSAC", 23: "ER AAC LD", 29: "PS",
+    30: "MPEG Surround", 32: "Layer-1", 33: "Layer-2", 34: "Layer-3", 36: "ALS", 37: "SLS", 39: "ER AAC ELD",
+    42: "USAC"}
+CHANNELS = {0: "defined in the stream", 1: "mono", 2: "stereo", 3: "3.0", 4: "4.0", 5: "5.0", 6: "5.1", 7: "7.1"}
+FREQUENCIES = [96000, 88200, 64000, 48000, 44100, 32000, 24000, 22050, 16000, 12000, 11025, 8000, 7350]
+
+
+class BitReader:
+    """Reads the bits of `data`. Bits past the end are 0."""
+
+    def __init__(self, data):
+        self.text, self.at, self.count = "".join(f"{byte:08b}" for byte in data), 0, 8 * len(data)
+
+    def take(self, width):
+        self.at += width
+        return int((self.text + "0" * self.at)[self.at - width:self.at] or "0", 2)
+
+    def has(self, width):
+        return self.at + width <= self.count
+
+    def object_type(self):
+        kind = self.take(5)
+        return 32 + self.take(6) if kind == 31 else kind
+
+    def frequency(self, prefix):
+        """Returns the fields of a sampling frequency, the names of which begin with `prefix`."""
+        index = self.take(4)
+        found = self.take(24) if index == 15 else dict(enumerate(FREQUENCIES)).get(index, 0)
+        names = [prefix + "amplingFrequencyIndex", prefix + "amplingFrequency"]
+        return {names[0]: index, **({names[1]: found} if found else {})}
+
+
+def audio_config(data):
+    """Returns the fields of the configuration of MPEG-4 audio in `data` (ISO/IEC 14496-3, 1.6.2.1), or None if the
+    bytes are too few."""
+    bits = BitReader(data)
+    kind = bits.object_type()
+    fields = {"audioObjectType": kind, **bits.frequency("s")}
+    channels = fields["channelConfiguration"] = bits.take(4)
+    extension = {}
+    if kind in (5, 29):
+        extension = {"extensionAudioObjectType": 5, "sbrPresentFlag": 1, **({"psPresentFlag": 1} if kind == 29 else {}),
+                     **bits.frequency("extensionS")}
+        fields["audioObjectType"] = bits.object_type()
+    if not bits.has(0):
+        return None
+    if kind in (1, 2, 3, 4) and channels:
+        bits.take(1)
+        bits.take(14 * bits.take(1))
+        bits.take(bits.take(1))
+        extension = signalled(bits)
+    fields.update(extension)
+    names = {"audioObjectType": AUDIO_TYPES, "channelConfiguration": CHANNELS}
+    return {name: Named(value, names[name][value]) if value in names.get(name, {}) else value
+            for name, value in fields.items()}
+
+
+def signalled(bits):
+    """Returns the fields of an extension that follows a configuration."""
+    if not bits.has(17) or bits.take(11) != 0x2B7 or bits.object_type() != 5:
+        return {}
+    if not bits.take(1):
+        return {"extensionAudioObjectType": 5, "sbrPresentFlag": 0}
+    frequency = bits.frequency("extensionS")
+    if not bits.has(0):
+        return {}
+    ps = {"psPresentFlag": bits.take(1)} if bits.has(12) and bits.take(11) == 0x548 else {}
+    return {"extensionAudioObjectType": 5, "sbrPresentFlag": 1, **ps, **frequency}
+
+
+def descriptor(d):
+    d.numbers("1 tag")
+    count, fields = d.expandable(lambda data: descriptor_data(data, d.fields["tag"]))
+    d.named({"tag": TAGS})
+    if d.raw or count != 1:
+        d.put("size_bytes", count)
+    d.fields.update(fields)
+
+
+def descriptor_data(c, tag):
+    if tag != 6 or c.raw or not c.room():
+        c.bytes("data_bytes [content]")
+        return
+    c.numbers("1 predefined")
+    if c.fields["predefined"] == 0 and c.room() >= 15:
+        c.bits("1 useAccessUnitStartFlag, 1 useAccessUnitEndFlag, 1 useRandomAccessPointFlag,"
+               "1 hasRandomAccessUnitsOnlyFlag, 1 usePaddingFlag, 1 useTimeStampsFlag, 1 useIdleFlag, 1 durationFlag,"
+               "32 timeStampResolution, 32 OCRResolution, 8 timeStampLength, 8 OCRLength, 8 AU_Length,"
+               "8 instantBitrateLength, 4 degradationPriorityLength, 5 AU_seqNumLength, 5 packetSeqNumLength,"
+               "2 -reserved=3")
+    c.named({"predefined": PREDEFINED})
+    if c.room():
+        c.bytes("data_bytes")
+
+
+def decoder_config(c):
+    c.numbers("1 objectTypeIndication")
+    c.bits("6 streamType, 1 upStream, 1 -reserved=1, 24 bufferSizeDB")
+    c.numbers("4 maxBitrate, 4 avgBitrate")
+    c.each_to_end("decoder_descriptors [es_decoder_config_descriptors]", descriptor)
+    c.named({"objectTypeIndication": OBJECT_TYPES, "streamType": STREAM_TYPES})
+
+
+def elementary_stream(c):
+    c.numbers("2 ES_ID")
+    c.bits("1 streamDependenceFlag, 1 URL_Flag, 1 OCRstreamFlag, 5 streamPriority")
+    if c.fields["streamDependenceFlag"]:
+        c.numbers("2 dependsOn_ES_ID")
+    if c.fields["URL_Flag"]:
+        c.put_string("URLstring [url]", c.take(c.count(1, 1, "bytes")))
+    if c.fields["OCRstreamFlag"]:
+        c.numbers("2 OCR_ES_Id")
+    check(c.number(1) == 4, WRONG_TAG)
+    count, config = c.expandable(decoder_config)
+    if c.raw:
+        c.put("es_decoder_config_size_bytes", count)
+        c.fields.update(config)
+    else:
+        inside = config.pop("decoder_descriptors")
+        size = {"size_bytes": count} if count != 1 else {}
+        audio = None
+        if config["objectTypeIndication"] == 0x40 and inside and inside[0]["tag"] == 5:
+            audio = audio_config(bytes.fromhex(inside[0]["data_bytes"]))
+        group = {"AudioSpecificConfig": audio} if audio else {}
+        c.put("decConfigDescr", {**size, **config, **group})
+        c.put("decoder_descriptors", inside)
+    c.each_to_end("descriptors [es_descriptors]", descriptor)
+
+
+WRONG_TAG = "descriptor has another tag than the one expected"
+
+
+def esds(c):
+    c.full(1)
+    check(c.number(1) == 3, WRONG_TAG)
+    count, fields = c.expandable(elementary_stream)
+    if c.raw or count != 1:
+        c.put("ES_Descriptor_size_bytes [es_size_bytes]", count)
+    c.fields.update(fields)
+    if c.raw or c.room():
+        c.bytes("data_bytes [rest]")
+
+
+def font(c):
+    c.numbers("2 font-ID [font_id]")
+    c.put_string("font", c.take(c.count(1, 1, "bytes")))
+
+
+def ftab(c):
+    count = c.number(2)
+    if not c.raw:
+        c.put("entry-count", count)
+    c.put("font-entry [entries]", [c.entry(font) for _ in range(count)])
 
 
 def hvcc(c):
@@ -1006,10 +1203,10 @@ MORE = {
     "imir": lambda c: c.bits("7 -reserved=0, 1 axis"), "sthd": lambda c: c.full(1),
     "gmin": gmin, "hmhd": hmhd, "iods": iods, "leva": leva, "ssix": ssix, "tcmi": tcmi, "text": text,
     "av1C": av1c, "colr": colr, "cslg": cslg, "data": data, "dec3": dec3, "dfLa": dfla, "dOps": dops, "elng": elng,
-    "hvcC": hvcc, "keys": keys, "kind": kind, "mdcv": mdcv,
+    "esds": esds, "hvcC": hvcc, "keys": keys, "kind": kind, "mdcv": mdcv,
     "mfro": mfro, "prft": prft, "pssh": pssh, "saio": saio, "saiz": saiz, "sbgp": sbgp, "schm": schm, "sdtp": sdtp,
     "senc": senc, "sgpd": sgpd, "sidx": sidx, "styp": styp, "stz2": stz2, "subs": subs, "tenc": tenc, "tfra": tfra,
-    "stpp": stpp, "wvtt": wvtt,
+    "stpp": stpp, "wvtt": wvtt, "ftab": ftab,
     "btrt": lambda c: c.numbers("4 bufferSizeDB, 4 maxBitrate, 4 avgBitrate"),
     "clap": lambda c: c.numbers(
         "4 cleanApertureWidthN, 4 cleanApertureWidthD, 4 cleanApertureHeightN, 4 cleanApertureHeightD, i4 horizOffN,"

@@ -49,10 +49,15 @@ class Declared:
         source = " ".join(map(plain, [own, *others]))
         self.source = source
         self.types = {name: type_of(text) for name, text in re.findall(r"\btype (\w+) = ([^;]*);", source)}
+        # A type with the shape of another one.
+        same = r"impl Shape for (\w+) \{ type Value = [^;]*; ghost shape = \{ ⟦<(\w+) as Shape>⟧\.shape \};"
+        self.types.update((name, self.types[other]) for name, other in re.findall(same, source))
         name, owner = re.search(r"impl DeclaredBox for (\w+) .*? type Shape = (\w+);", source).groups()
         self.shape = self.types[owner]
         self.fields = self.fields_of(name)
-        self.code = codes()[re.search(r"const CODE: u32 = codes::(\w+);", source)[1]]
+        shared, own_code = re.search(r"const CODE: u32 = (codes::)?(\w+);", source).groups()
+        number = None if shared else re.search(rf"const {own_code}: u32 = (0x\w+);", source)[1]
+        self.code = codes()[own_code] if shared else int(number, 0).to_bytes(4, "big").decode("latin-1")
         self.section = re.search(rf"/// .*?\(`{self.code}`, ([^)]*)\)", own)[1]
 
     def is_of_section(self, section):
@@ -122,6 +127,13 @@ class Declared:
         elif name == "WithSize":
             yield "size (4)"
             yield from self.parts_of(inside[0], fields)
+        elif name == "Tagged":
+            tag = re.search(rf"impl DescriptorTag for {inside[0][0]} .*? const TAG: u8 = (\d+);", self.source)[1]
+            yield f"tag {tag}"
+            yield from self.parts_of(("Expandable", inside[1:]), fields)
+        elif name == "Expandable":
+            yield f"{next(fields, None)} (of a size in 1 to 4)"
+            yield from self.parts_of(inside[0], fields)
         elif name == "Dependent":
             bits, entry, *widths = inside
             yield f"{next(fields, None)} ({self.entry(bits[0], *(it[0] for it in widths))})"
@@ -158,6 +170,8 @@ class Declared:
             return f"count {NUMBERS[names[0]]}; each: {', '.join(self.parts_of_entry(names[1]))}"
         if name == "Counted":
             return f"counted before; each: {', '.join(self.parts_of_entry(names[0]))}"
+        if name == "Nested":
+            return ", ".join(self.parts_of_entry(names[0]))
         if name == "AvcTail":
             known, least = re.search(
                 r"if has_format\(context\.version\) && (\d+) <= left { .*? read_after::<Nested<(\w+)>>",
@@ -192,11 +206,18 @@ class Declared:
         return f"{words[name]} {inside[0][0]}"
 
 
+def is_held(path):
+    """Returns whether a file declares a box that an `ExtraBox` holds."""
+    declared = re.search(r"impl DeclaredBox for (\w+)", read(path))
+    enums = glob.glob(os.path.join(TOP, "crates/mp4_extra/src/*_box.rt"))
+    return declared and any(re.search(rf"\b{declared[1]} \w+Box\b", read(enum)) for enum in enums)
+
+
 def declarations():
-    """Returns the declarations of all boxes of the crate."""
+    """Returns the declarations of the boxes that an `ExtraBox` holds."""
     found = sorted(glob.glob(os.path.join(TOP, SOURCES)), key=os.path.basename)
     paths = [os.path.relpath(path, TOP) for path in found]
-    return [Declared(path) for path in paths if "impl DeclaredBox for" in read(path)]
+    return [Declared(path) for path in paths if is_held(path)]
 
 
 def table():

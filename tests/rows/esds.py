@@ -1,13 +1,14 @@
 """`esds`, the descriptors of an elementary stream: lengths in every form, wrong lengths, audio configurations, cuts and
-sizes. The headers of descriptors that are read are counted. In `COUNTED` the bytes of the fields count up from 0x81,
-except those of an audio configuration, whose fields are some of their bits."""
+sizes. The codec's own box keeps some descriptors, and the headers of those that it reads are counted. The declared box
+keeps all. In `COUNTED` and `WHOLE` the bytes of the fields count up from 0x81, except those whose fields are some of
+their bits."""
 
 from tests.rows.entry_values import (
     AUDIO_CONFIGURATIONS, ESDS, ESDS_VALUE, config, esds, esds_bytes, esds_bytes_of, esds_of, specific,
 )
 from tests.rows.making import (
-    END, LARGEST, PAST_64_BITS, box, changed, counting, fields, full, invalid, large, one, resized, round_trip, u8, u16,
-    u24, u32, written_as,
+    END, LARGEST, NO_VERSION_1, PAST_64_BITS, TOO_MANY_BYTES, WRONG_SIZE, Box, box, changed, counting, declared,
+    declared_as, fields, full, invalid, large, one, resized, round_trip, u8, u16, u24, u32, written_as,
 )
 
 NOT_FOUND = invalid("ESDescriptor not found")
@@ -358,23 +359,385 @@ def every_other_tag_ends_the_streams():
             yield one(esds_bytes(stream(1), bytes([tag, 0]), stream(2)), esds(1), headers=2)
 
 
-def fields_of_descriptors():
-    """ISO/IEC 14496-14, 5.6."""
-    # Has the stream type 5 in six bits, the direction 1 in one, and then a bit of 1.
-    decoder = u8(4, 0x17) + u24(7) + u32(8, 9)
-    # Has the bits 01010 1111, 13 in 24 bits, 1100 and three of padding; and 01010 1011 1100 and three of padding.
-    for content, specific_fields in [
-        (b"\x57\x80\x00\x06\xe0", {
-            "audioObjectType": 10, "samplingFrequencyIndex": 15, "samplingFrequency": 13, "channelConfiguration": 12,
-        }),
-        (b"\x55\xe0", {"audioObjectType": 10, "samplingFrequencyIndex": 11, "channelConfiguration": 12}),
+def configuration(kind, content, *after, stream=0x17):
+    """Returns an `esds` with this object type and these bytes of the decoder, and the fields before its configuration.
+    The stream type is 5 in six bits, before the direction 1 and a bit of 1."""
+    inside = u8(5, len(content)) + content if content is not None else b""
+    inner = u8(4, 13 + len(inside)) + u8(kind, stream) + u24(7) + u32(8, 9) + inside
+    return full(b"esds", u8(3, 3 + len(inner) + 3), u16(3), u8(0x0B), inner, u8(6, 1, 2), *after)
+
+
+def shown(kind, kind_name, content, **audio):
+    """Returns the fields of `configuration`."""
+    names = {} if kind_name is None else {"objectTypeIndication_name": kind_name}
+    decoder = [] if content is None else [{"tag": 5, "tag_name": "DecoderSpecificInfo", "data_bytes": content.hex()}]
+    return {
+        "version": 0, "flags": 0, "ES_ID": 3, "streamDependenceFlag": 0, "URL_Flag": 0, "OCRstreamFlag": 0,
+        "streamPriority": 11, "decConfigDescr": {
+            "objectTypeIndication": kind, **names, "streamType": 5, "streamType_name": "audio", "upStream": 1,
+            "bufferSizeDB": 7, "maxBitrate": 8, "avgBitrate": 9, **({"AudioSpecificConfig": audio} if audio else {}),
+        }, "decoder_descriptors": decoder, "descriptors": [
+            {"tag": 6, "tag_name": "SLConfigDescriptor", "predefined": 2, "predefined_name": "MP4 file"}],
+    }
+
+
+def bits(text):
+    """Returns the bytes of the bits in `text`, with bits of 0 up to the end of the last byte."""
+    digits = text.replace(" ", "")
+    count = (len(digits) + 7) // 8
+    return int(digits.ljust(8 * count, "0"), 2).to_bytes(count, "big")
+
+
+# AAC LC, the frequency with index 7, and stereo. The two words that begin an extension are 0x2B7 and 0x548.
+LC = "00010 0111 0010"
+LC_FIELDS = {
+    "audioObjectType": 2, "audioObjectType_name": "AAC LC", "samplingFrequencyIndex": 7, "samplingFrequency": 22050,
+    "channelConfiguration": 2, "channelConfiguration_name": "stereo",
+}
+SBR_WORD, PS_WORD = "01010110111", "10101001000"
+# An extension with SBR, and the index 4.
+SBR = SBR_WORD + "00101 1 0100"
+
+
+def sbr(ps=None, index=4, frequency=44100, present=1):
+    """Returns the fields of an extension, with the flag of parametric stereo `ps` if it isn't None."""
+    names = {"extensionAudioObjectType": 5, "sbrPresentFlag": present, "psPresentFlag": ps,
+             "extensionSamplingFrequencyIndex": index, "extensionSamplingFrequency": frequency}
+    return {name: value for name, value in names.items() if value is not None}
+
+
+def with_audio(content, *parts):
+    """Expects the fields `parts` of a configuration of MPEG-4 audio in the bits of the text `content`."""
+    content = bits(content)
+    audio = {name: value for part in parts for name, value in part.items()}
+    return fields(configuration(0x40, content), **shown(0x40, "MPEG-4 Audio", content, **audio))
+
+
+def fields_of_audio():
+    """ISO/IEC 14496-3, 1.6.2.1: an object type of 5 or 11 bits, a frequency by its index or in 24 bits, and channels in
+    4 bits."""
+    yield with_audio("01010 1111 000000000000000000001101 1100", {
+        "audioObjectType": 10, "samplingFrequencyIndex": 15, "samplingFrequency": 13, "channelConfiguration": 12})
+    yield with_audio("01010 1011 1100", {
+        "audioObjectType": 10, "samplingFrequencyIndex": 11, "samplingFrequency": 8000, "channelConfiguration": 12})
+    yield with_audio("11111 001010 0011 0111", {
+        "audioObjectType": 42, "audioObjectType_name": "USAC", "samplingFrequencyIndex": 3, "samplingFrequency": 48000,
+        "channelConfiguration": 7, "channelConfiguration_name": "7.1"})
+    yield with_audio("11111 100101 1111 100000010000001000000011 1001", {
+        "audioObjectType": 69, "samplingFrequencyIndex": 15, "samplingFrequency": 0x810203, "channelConfiguration": 9})
+
+
+def fields_of_audio_frequencies():
+    """ISO/IEC 14496-3, 1.6.3.4: two indices are reserved."""
+    frequencies = [
+        96000, 88200, 64000, 48000, 44100, 32000, 24000, 22050, 16000, 12000, 11025, 8000, 7350, None, None,
+    ]
+    for index, frequency in enumerate(frequencies):
+        of_index = {"samplingFrequencyIndex": index, "samplingFrequency": frequency}
+        yield with_audio(f"00001 {index:04b} 0001", {"audioObjectType": 1, "audioObjectType_name": "AAC Main"}, {
+            name: value for name, value in of_index.items() if value is not None
+        }, {"channelConfiguration": 1, "channelConfiguration_name": "mono"})
+
+
+def fields_of_extended_audio():
+    """ISO/IEC 14496-3, 1.6.2.1: SBR and PS with the object type that they extend after them."""
+    yield with_audio("00101 0111 0010 0100 00010", LC_FIELDS, sbr())
+    yield with_audio("11101 0111 0010 0100 00010", LC_FIELDS, sbr(ps=1))
+    yield with_audio("00101 1111 000000000000000010000001 1010 1111 000000000000000010000010 11111 000110", {
+        "audioObjectType": 38, "samplingFrequencyIndex": 15, "samplingFrequency": 0x81, "channelConfiguration": 10,
+    }, sbr(index=15, frequency=0x82))
+    # An extension that follows isn't another one.
+    yield with_audio("00101 0111 0010 0100 00010 000" + SBR_WORD + "00101 1 0011", LC_FIELDS, sbr())
+    yield with_audio("00101 0111 0010 1101 00010", LC_FIELDS, sbr(index=13, frequency=None))
+
+
+def fields_of_audio_with_an_extension_after_it():
+    """ISO/IEC 14496-3, 1.6.2.1 and 4.4.1: an extension after the configuration of a coder."""
+    yield with_audio(LC + "000" + SBR, LC_FIELDS, sbr())
+    yield with_audio(LC + "000" + SBR + PS_WORD + "1", LC_FIELDS, sbr(ps=1))
+    yield with_audio(LC + "000" + SBR + PS_WORD + "0", LC_FIELDS, sbr(ps=0))
+    yield with_audio(LC + "000" + SBR_WORD + "00101 0", LC_FIELDS, sbr(present=0, index=None, frequency=None))
+    yield with_audio(
+        LC + "000" + SBR_WORD + "00101 1 1111 000000000000000010000011" + PS_WORD + "1", LC_FIELDS,
+        sbr(ps=1, index=15, frequency=0x83))
+    # The coder depends on another one, and has its delay in 14 bits.
+    yield with_audio(LC + "0 1 10101010101010 0" + SBR, LC_FIELDS, sbr())
+    # The flag of an extension of the coder, and another one.
+    yield with_audio(LC + "0 0 1 0" + SBR, LC_FIELDS, sbr())
+    yield with_audio(LC + "1 1 01010101010101 1 1" + SBR + PS_WORD + "1", LC_FIELDS, sbr(ps=1))
+    for kind, name in ((1, "AAC Main"), (3, "AAC SSR"), (4, "AAC LTP")):
+        yield with_audio(
+            f"{kind:05b} 0111 0010 000" + SBR, dict(LC_FIELDS, audioObjectType=kind, audioObjectType_name=name), sbr())
+
+
+def fields_of_audio_without_an_extension():
+    """ISO/IEC 14496-3, 1.6.2.1 and 4.4.1: each of these has other bits between the configuration and an extension, or
+    another word."""
+    for kind, name in ((6, "AAC Scalable"), (17, "ER AAC LC"), (22, "ER BSAC")):
+        yield with_audio(
+            f"{kind:05b} 0111 0010 000" + SBR, dict(LC_FIELDS, audioObjectType=kind, audioObjectType_name=name))
+    yield with_audio("00010 0111 0000 000" + SBR, dict(
+        LC_FIELDS, channelConfiguration=0, channelConfiguration_name="defined in the stream"))
+    yield with_audio(LC + "000" + "01010110110" + "00101 1 0100", LC_FIELDS)
+    yield with_audio(LC + "000" + SBR_WORD + "00100 1 0100", LC_FIELDS)
+    yield with_audio(LC + "000" + SBR + "10101001001" + "1", LC_FIELDS, sbr())
+
+
+def fields_of_audio_that_ends_early():
+    """ISO/IEC 14496-3, 1.6.2.1: a part is shown if all its bits are present."""
+    for content in (b"", b"\x11", b"\x57\x80\0\0", b"\xf9\x46", b"\x2b\x92", b"\xff\xff"):
+        yield fields(configuration(0x40, content), **shown(0x40, "MPEG-4 Audio", content))
+    # The flag of SBR is missing, or the last byte of a frequency, or the flag of PS.
+    for cut, *parts in [
+        (LC + "000" + SBR_WORD + "00101", LC_FIELDS),
+        (LC + "000" + SBR_WORD + "00101 1 1111 0000000000000000100", LC_FIELDS),
+        (LC + "000" + SBR + PS_WORD, LC_FIELDS, sbr()),
     ]:
-        n = len(content)
-        inner = u8(4, 15 + n) + decoder + u8(5, n) + content
+        assert len(cut.replace(" ", "")) % 8 == 0
+        yield with_audio(cut, *parts)
+
+
+def fields_of_other_decoders():
+    """ISO/IEC 14496-1, 7.2.6.6.2: only MPEG-4 audio has such a configuration."""
+    for kind, name in ((0x6B, "MPEG-1 Audio"), (0xDD, "Vorbis"), (0x67, "MPEG-2 AAC LC"), (0x04, None)):
+        for content in (b"\x11\x90", None):
+            yield fields(configuration(kind, content), **shown(kind, name, content))
+    yield fields(configuration(0x40, None), **shown(0x40, "MPEG-4 Audio", None))
+    # Has a byte too few for a configuration.
+    yield fields(configuration(0x40, b"\x11"), **shown(0x40, "MPEG-4 Audio", b"\x11"))
+    yield fields(configuration(0x40, b"\x11\x90", b"\xab"), **shown(
+        0x40, "MPEG-4 Audio", b"\x11\x90", audioObjectType=2, audioObjectType_name="AAC LC", samplingFrequencyIndex=3,
+        samplingFrequency=48000, channelConfiguration=2, channelConfiguration_name="stereo"), data_bytes="ab")
+
+
+def fields_of_streams():
+    """ISO/IEC 14496-1, 7.2.6.5: what the three flags say is present. Sizes in four bytes and in two."""
+    inner = b"\4\x80\x0d" + u8(0x20, 0x10) + u24(7) + u32(8, 9)
+    for flags in range(8):
+        first, second, third = flags >> 2, flags >> 1 & 1, flags & 1
+        after = u16(0x8485) + u8(flags << 5 | 11) + first * u16(0x8687) + second * b"\2ab" + third * u16(0x8889) + inner
+        parts = {"dependsOn_ES_ID": 0x8687, "URLstring": "ab", "OCR_ES_Id": 0x8889}
         yield fields(
-            full(b"esds", u8(3, 23 + n), u16(3), u8(0), inner, u8(6, 1, 2), version=1, flags=2), version=1, flags=2,
-            ES={"ES_ID": 3, "decConfigDescr": {
-                "objectTypeIndication": 4, "streamType": 5, "upStream": 2, "bufferSizeDB": 7, "maxBitrate": 8,
-                "avgBitrate": 9, "decSpecificInfo": specific_fields,
-            }},
-        )
+            full(b"esds", b"\3\x80\x80\x80" + u8(len(after)), after), version=0, flags=0,
+            ES_Descriptor_size_bytes=4, ES_ID=0x8485, streamDependenceFlag=first, URL_Flag=second,
+            OCRstreamFlag=third, streamPriority=11,
+            **{name: value for (name, value), flag in zip(parts.items(), (first, second, third)) if flag},
+            decConfigDescr={
+                "size_bytes": 2, "objectTypeIndication": 0x20, "objectTypeIndication_name": "MPEG-4 Visual",
+                "streamType": 4, "streamType_name": "visual", "upStream": 0, "reserved": 0, "bufferSizeDB": 7,
+                "maxBitrate": 8, "avgBitrate": 9}, decoder_descriptors=[], descriptors=[])
+
+
+def described_as(*descriptors, of_decoder=b"", inside=()):
+    """Expects the fields of an `esds` with descriptors that are shown as `descriptors`, each a pair of bytes and
+    fields, after the configuration of a decoder with the descriptors `of_decoder`, shown as `inside`."""
+    inner = u8(4, 13 + len(of_decoder)) + u8(0x6C, 0x11) + u24(1) + u32(2, 3) + of_decoder
+    after = u16(4) + u8(5) + inner + b"".join(content for content, _ in descriptors)
+    return fields(
+        full(b"esds", u8(3, len(after)), after), version=0, flags=0, ES_ID=4, streamDependenceFlag=0, URL_Flag=0,
+        OCRstreamFlag=0, streamPriority=5, decConfigDescr={
+            "objectTypeIndication": 0x6C, "objectTypeIndication_name": "JPEG", "streamType": 4,
+            "streamType_name": "visual", "upStream": 0, "bufferSizeDB": 1, "maxBitrate": 2, "avgBitrate": 3},
+        decoder_descriptors=list(inside), descriptors=[shown_as for _, shown_as in descriptors])
+
+
+LAYER_FLAGS = (
+    "useAccessUnitStartFlag useAccessUnitEndFlag useRandomAccessPointFlag hasRandomAccessUnitsOnlyFlag usePaddingFlag"
+    " useTimeStampsFlag useIdleFlag durationFlag").split()
+
+
+def layer(content, **of_layer):
+    """Returns a configuration of the synchronization layer with these bytes, and its fields."""
+    return u8(6, len(content)) + content, {"tag": 6, "tag_name": "SLConfigDescriptor", **of_layer}
+
+
+def fields_of_synchronization_layers():
+    """ISO/IEC 14496-1, 7.3.2.3. The last 16 bits are 1000 11011 00011 and two reserved ones, 11 in the standard."""
+    numbers = counting(0x81, 0x8C)
+    names = {
+        "timeStampResolution": 0x81828384, "OCRResolution": 0x85868788, "timeStampLength": 0x89, "OCRLength": 0x8A,
+        "AU_Length": 0x8B, "instantBitrateLength": 0x8C, "degradationPriorityLength": 8, "AU_seqNumLength": 27,
+        "packetSeqNumLength": 3,
+    }
+    for flag in range(8):
+        flags = {name: int(number == flag) for number, name in enumerate(LAYER_FLAGS)}
+        custom = {"predefined": 0, "predefined_name": "custom", **flags, **names}
+        yield described_as(layer(u8(0, 0x80 >> flag) + numbers + b"\x8d\x8f", **custom))
+        for reserved in range(3):
+            yield described_as(
+                layer(u8(0, 0x80 >> flag) + numbers + u8(0x8D, 0x8C + reserved), **custom, reserved=reserved))
+    yield described_as(
+        layer(u8(0, 0x01) + numbers + b"\x8d\x8f\x91\x92", **custom, data_bytes="9192"))
+    # A descriptor is shown by its tag wherever it is.
+    content, shown_as = layer(u8(0, 0x01) + numbers + b"\x8d\x8c", **custom, reserved=0)
+    yield described_as(of_decoder=content, inside=[shown_as])
+
+
+def fields_of_other_synchronization_layers():
+    """ISO/IEC 14496-1, 7.3.2.3: one is predefined, or has a byte too few."""
+    fifteen = counting(0x81, 0x8E)
+    yield described_as(layer(b"\0" + fifteen, predefined=0, predefined_name="custom", data_bytes=fifteen.hex()))
+    yield described_as(layer(b"\0", predefined=0, predefined_name="custom"))
+    yield described_as(layer(b"\1", predefined=1, predefined_name="null SL packet header"))
+    yield described_as(layer(b"\2\xab\xcd", predefined=2, predefined_name="MP4 file", data_bytes="abcd"))
+    yield described_as(layer(b"\3" + fifteen + b"\x8f", predefined=3, data_bytes=fifteen.hex() + "8f"))
+    yield described_as(layer(b"", data_bytes=""))
+
+
+def fields_of_many_descriptors():
+    """ISO/IEC 14496-1, 7.2.2.1: descriptors of the decoder and of the stream, in the order of the file. Audio has no
+    configuration if its bytes aren't first."""
+    inside = [{"tag": 0x14, "tag_name": "ProfileLevelIndicationIndexDescriptor", "data_bytes": "81"},
+              {"tag": 5, "tag_name": "DecoderSpecificInfo", "size_bytes": 3, "data_bytes": "1190"}]
+    yield described_as(
+        (b"\x0d\4abcd", {"tag": 13, "tag_name": "RegistrationDescriptor", "data_bytes": "61626364"}),
+        layer(b"\2", predefined=2, predefined_name="MP4 file"),
+        (b"\x43\x80\3eng", {"tag": 67, "tag_name": "LanguageDescriptor", "size_bytes": 2, "data_bytes": "656e67"}),
+        (b"\xfe\0", {"tag": 0xFE, "data_bytes": ""}),
+        of_decoder=b"\x14\1\x81" + b"\5\x80\x80\2\x11\x90", inside=inside)
+    given = u8(4, 22) + u8(0x40, 0x15) + u24(1) + u32(2, 3) + b"\x14\1\x81" + b"\5\x80\x80\2\x11\x90"
+    yield fields(
+        full(b"esds", u8(3, 27), u16(4), u8(5), given), version=0, flags=0, ES_ID=4, streamDependenceFlag=0,
+        URL_Flag=0, OCRstreamFlag=0, streamPriority=5, decConfigDescr={
+            "objectTypeIndication": 0x40, "objectTypeIndication_name": "MPEG-4 Audio", "streamType": 5,
+            "streamType_name": "audio", "upStream": 0, "bufferSizeDB": 1, "maxBitrate": 2, "avgBitrate": 3},
+        decoder_descriptors=inside, descriptors=[])
+
+
+WRONG_TAG = invalid("descriptor has another tag than the one expected")
+LONG_SIZE = invalid("size of a descriptor has more than four bytes")
+# The bits are 1 1 1 10101, and 100011 1 0.
+CONFIG = u8(0x8D, 0x8E) + counting(0x8F, 0x99) + b"\x9a\x80\x80\2\x9b\x9c" + b"\5\0"
+STREAM = b"\x84\x85\xf5\x86\x87" + b"\3\x88\x89\x8a" + b"\x8b\x8c" + b"\4\x15" + CONFIG + b"\6\x80\x80\x80\1\x9d"
+WHOLE = box(b"esds", b"\0\x81\x82\x83", b"\3\x80\x28" + STREAM, b"\x9e\x9f")
+
+
+def descriptor(tag, size_bytes, content):
+    return {"tag": tag, "size_bytes": size_bytes, "content": list(content)}
+
+
+def decoder_config(size_bytes, *descriptors):
+    stream_bits = {"stream_type": 35, "up_stream": True, "reserved": False, "buffer_size_db": 0x8F9091}
+    return {
+        "size_bytes": size_bytes, "object_type_indication": 0x8D, "stream": stream_bits, "max_bitrate": 0x92939495,
+        "avg_bitrate": 0x96979899, "descriptors": list(descriptors),
+    }
+
+
+def options(dependence, url, clock, priority=21):
+    """Returns the options of a stream with these flags: each of the three says whether one part is present."""
+    flags = {"stream_dependence_flag": dependence, "url_flag": url, "ocr_stream_flag": clock}
+    return {
+        "flags": dict(flags, stream_priority=priority), "depends_on_es_id": 0x8687 if dependence else None,
+        "url": [0x88, 0x89, 0x8A] if url else None, "ocr_es_id": 0x8B8C if clock else None,
+    }
+
+
+OF_DECODER = [descriptor(0x9A, 3, b"\x9b\x9c"), descriptor(5, 1, b"")]
+OF_STREAM = [descriptor(6, 4, b"\x9d")]
+ES = {
+    "size_bytes": 2, "es_id": 0x8485, "options": options(True, True, True),
+    "decoder_config": decoder_config(1, *OF_DECODER), "descriptors": OF_STREAM,
+}
+
+
+def whole(es, rest):
+    return Box("esds", version=0, flags=0x818283, es=es, rest=list(rest))
+
+
+def declared_with_every_part():
+    yield from declared_as(WHOLE, whole(ES, b"\x9e\x9f"))
+
+
+def declared_in_another_version():
+    yield declared(changed(WHOLE, {8: 1}), NO_VERSION_1)
+
+
+def declared_with_some_flags():
+    """Each of the three flags says whether one part is present."""
+    for number in range(8):
+        flags = [number & 4 != 0, number & 2 != 0, number & 1 != 0]
+        parts = [part for part, flag in zip((b"\x86\x87", b"\3\x88\x89\x8a", b"\x8b\x8c"), flags) if flag]
+        after = b"\x84\x85" + u8(number << 5 | 21) + b"".join(parts) + b"\4\x0d" + CONFIG[:13]
+        es = dict(ES, size_bytes=1, options=options(*flags), descriptors=[], decoder_config=decoder_config(1))
+        given = box(b"esds", b"\0\x81\x82\x83", b"\3" + u8(len(after)) + after)
+        yield declared(given, whole(es, b""), given)
+
+
+def declared_without_audio_configuration():
+    """The descriptors of a decoder are optional. The codec's own box has an audio configuration of zeros instead."""
+    given = box(b"esds", bytes(4), b"\3\x12\0\1\0\4\x0d" + CONFIG[:13])
+    es = {"size_bytes": 1, "es_id": 1, "options": options(False, False, False, 0),
+          "decoder_config": decoder_config(1), "descriptors": []}
+    yield declared(given, Box("esds", version=0, flags=0, es=es, rest=[]), given)
+
+
+def declared_with_sizes_in_every_form():
+    for head, count in [(b"\3\x28", 1), (b"\3\x80\x28", 2), (b"\3\x80\x80\x28", 3), (b"\3\x80\x80\x80\x28", 4)]:
+        given = box(b"esds", b"\0\x81\x82\x83", head + STREAM)
+        yield declared(given, whole(dict(ES, size_bytes=count), b""), given)
+    yield declared(box(b"esds", bytes(4), b"\3\x80\x80\x80\x80", STREAM), LONG_SIZE)
+    yield declared(box(b"esds", bytes(4), b"\3\xff\xff\xff\x80", STREAM), LONG_SIZE)
+
+
+def declared_with_large_sizes():
+    """The sizes of the data are below and above 2^7 and 2^14, and one has every byte."""
+    for head, count in [
+        (b"\x7f", 127), (b"\x81\0", 128), (b"\xff\x7f", 16383), (b"\x81\x80\0", 16384),
+        (b"\x84\x84\3", 66051),
+    ]:
+        data = bytes(number % 253 for number in range(count))
+        inner = b"\x84\x85\x15\4\x0d" + CONFIG[:13] + b"\x10" + head + data
+        size = len(inner)
+        front = u8(*(0x80 | size >> shift & 0x7F for shift in (21, 14, 7)), size & 0x7F)
+        given = box(b"esds", b"\0\x81\x82\x83", b"\3" + front + inner)
+        es = dict(ES, size_bytes=4, options=options(False, False, False), decoder_config=decoder_config(1),
+                  descriptors=[descriptor(0x10, len(head), data)])
+        yield declared(given, whole(es, b""), given)
+
+
+def declared_with_sizes_of_missing_bytes():
+    """The box has room for the size, or for one byte less."""
+    for head, size in [
+        (b"\xff\xff\x7f", 2**21 - 1), (b"\x81\x80\x80\0", 2**21), (b"\x83\x85\x87\x09", 6374281),
+        (b"\xff\xff\xff\x7f", 2**28 - 1),
+    ]:
+        given = box(b"esds", bytes(4), b"\3" + head + STREAM)
+        last = 13 + len(head) + size
+        yield declared(resized(given, last), END)
+        yield declared(resized(given, last - 1), WRONG_SIZE)
+
+
+def declared_with_other_tags():
+    yield declared(changed(WHOLE, {12: 4}), WRONG_TAG)
+    yield declared(changed(WHOLE, {26: 5}), WRONG_TAG)
+
+
+def declared_with_wrong_sizes():
+    """The sizes of the stream, of the configuration and of three descriptors are at 14, 27, 44, 48 and 53."""
+    for places, expected in [
+        ({14: 0x27}, WRONG_SIZE),  # The last descriptor ends after the stream.
+        ({14: 0x29}, END),  # A descriptor has a size after the box.
+        ({14: 0x2B}, WRONG_SIZE),  # The stream ends after the box.
+        ({14: 0x7F}, WRONG_SIZE),
+        ({27: 0x0C}, WRONG_SIZE),  # The numbers of the configuration have 13 bytes.
+        ({27: 0x14}, WRONG_SIZE),
+        ({27: 0x7F}, WRONG_SIZE),
+        ({44: 0x7F}, WRONG_SIZE),
+        ({48: 1}, WRONG_SIZE),
+        ({53: 2}, WRONG_SIZE),
+        ({20: 0xFF}, TOO_MANY_BYTES),  # The URL ends after the box.
+        ({20: 2}, WRONG_TAG),  # The tag of the configuration is a byte earlier, or later.
+        ({20: 4}, WRONG_TAG),
+        ({44: 1}, WRONG_SIZE),  # The next descriptor is a byte earlier, or later.
+        ({44: 3}, WRONG_SIZE),
+    ]:
+        yield declared(changed(WHOLE, places), expected)
+
+
+def declared_with_sizes_of_the_box():
+    """The bytes after the descriptor are those up to the end of the box."""
+    yield declared(resized(WHOLE, len(WHOLE) - 2), whole(ES, b""), box(b"esds", WHOLE[8:-2]))
+    yield declared(resized(WHOLE, len(WHOLE) - 1), whole(ES, b"\x9e"), box(b"esds", WHOLE[8:-1]))
+    yield declared(resized(WHOLE, len(WHOLE) - 3), WRONG_SIZE)
+    yield declared(resized(WHOLE, len(WHOLE) + 1), END)

@@ -1019,6 +1019,28 @@ class Frma(Fields):
 
 
 @dataclass(frozen=True)
+class FtabFontEntry(Part):
+    """An entry of `font-entry`."""
+
+    _bits = {"font_ID": (16,)}
+
+    font_ID: int = field(metadata={"name": "font-ID"})
+    font: str
+    font_hex: Optional[bytes] = None
+
+
+@dataclass(frozen=True)
+class Ftab(Fields):
+    """The fonts of a timed text (`ftab`, 3GPP TS 26.245, 5.16)."""
+
+    code = "ftab"
+    _bits = {"entry_count": (32,)}
+
+    font_entry: List[FtabFontEntry] = field(metadata={"name": "font-entry"})
+    entry_count: Optional[int] = field(default=None, compare=False, metadata={"name": "entry-count"})
+
+
+@dataclass(frozen=True)
 class Gmin(Fields):
     """The media information of tracks other than video and sound (`gmin`, QuickTime File Format, "Base media info
     atom")."""
@@ -1883,18 +1905,18 @@ class Wvtt(Fields):
 
 listed(
     Alac, Alis, AuxC, Av1C, Avc1, AvcC, Btrt, Chan, Chnl, Clap, Clli, Co64, Colr, Cslg, Ctts, DOps, Dac3, Data, Dec3,
-    DfLa, Dinf, Dref, DvcC, DvvC, Elng, Elst, Emsg, Enda, Esds, Fiel, Frma, Ftyp, Gmin, Hdlr, Hev1, Hmhd, HvcC, Iloc,
-    Imir, Infe, Iods, Ipma, Irot, Ispe, Keys, Kind, Leva, Mdcv, Mdhd, Mean, Mehd, Mfhd, Mfro, Mp4a, Mvhd, Name, Nmhd,
-    Pasp, Pitm, Pixi, Prft, Pssh, Saio, Saiz, Sbgp, Schm, Sdtp, Senc, Sgpd, Sidx, Smhd, Srat, Ssix, Stco, Sthd, Stpp,
-    Stsc, Stsd, Stss, Stsz, Stts, Styp, Stz2, Subs, Tcmi, Tenc, Text, Tfdt, Tfhd, Tfra, Tkhd, Tref, Trex, Trun, Tx3g,
-    Url, Urn, Vmhd, Vp09, VpcC, VvcC, Wvtt,
+    DfLa, Dinf, Dref, DvcC, DvvC, Elng, Elst, Emsg, Enda, Esds, Fiel, Frma, Ftab, Ftyp, Gmin, Hdlr, Hev1, Hmhd, HvcC,
+    Iloc, Imir, Infe, Iods, Ipma, Irot, Ispe, Keys, Kind, Leva, Mdcv, Mdhd, Mean, Mehd, Mfhd, Mfro, Mp4a, Mvhd, Name,
+    Nmhd, Pasp, Pitm, Pixi, Prft, Pssh, Saio, Saiz, Sbgp, Schm, Sdtp, Senc, Sgpd, Sidx, Smhd, Srat, Ssix, Stco, Sthd,
+    Stpp, Stsc, Stsd, Stss, Stsz, Stts, Styp, Stz2, Subs, Tcmi, Tenc, Text, Tfdt, Tfhd, Tfra, Tkhd, Tref, Trex, Trun,
+    Tx3g, Url, Urn, Vmhd, Vp09, VpcC, VvcC, Wvtt,
 )
 
 __all__ = [
     "Alac", "Alis", "AuxC", "Av1C", "Avc1", "AvcC", "Btrt", "Chan", "ChanMChannelDescriptions", "Chnl", "Clap", "Clli",
     "Co64", "Colr", "Cslg", "Ctts", "DOps", "Dac3", "Data", "Dec3", "Dec3Substreams", "DfLa", "DfLaMetadataBlocks",
-    "Dinf", "Dref", "DvcC", "DvvC", "Elng", "Elst", "Emsg", "Enda", "Esds", "Fiel", "Frma", "Ftyp", "Gmin", "Hdlr",
-    "Hev1", "Hmhd", "HvcC", "HvcCArrays", "Iloc", "Imir", "Infe", "Iods", "Ipma", "IpmaEntries",
+    "Dinf", "Dref", "DvcC", "DvvC", "Elng", "Elst", "Emsg", "Enda", "Esds", "Fiel", "Frma", "Ftab", "FtabFontEntry",
+    "Ftyp", "Gmin", "Hdlr", "Hev1", "Hmhd", "HvcC", "HvcCArrays", "Iloc", "Imir", "Infe", "Iods", "Ipma", "IpmaEntries",
     "IpmaEntriesAssociations", "Irot", "Ispe", "Keys", "KeysEntries", "Kind", "Leva", "Mdcv", "Mdhd", "Mean", "Mehd",
     "Mfhd", "Mfro", "Mp4a", "Mvhd", "Name", "Nmhd", "Pasp", "Pitm", "Pixi", "Prft", "Pssh", "Saio", "Saiz", "Sbgp",
     "SbgpEntries", "Schm", "Sdtp", "SdtpEntries", "Senc", "Sgpd", "SgpdEntries", "Sidx", "SidxReferences", "Smhd",

@@ -3,7 +3,7 @@
 //! - `tree` and `tree_of` return all boxes of a file, `tracks` its tracks, and `samples` the samples of a track.
 //! - `check_file` returns the faults of a file, and `info` what the file and its tracks are.
 //! - `ReadBox` and `WriteBox` read and write single boxes. Structs have the names of the crate `mp4`.
-//! - `fields` returns the fields of a box of any of 102 types as JSON.
+//! - `fields` returns the fields of a box of any of 103 types as JSON.
 //!
 //! Numbers such as (8.3.2) are sections of ISO/IEC 14496-12. The results of the library are proved for all bytes;
 //! nothing is proved about this crate, which passes pointers. A call that gets no memory returns `Error::OutOfMemory`.

@@ -1,6 +1,7 @@
 -- The types of boxes of sound, text and hints: how they are coded, and the headers of their media.
 use Rattle.std.specs.Prelude.{ℕ, Option}
 use Rattle.mp4_frame.specs.declared.codes.TheConstants as codes
+use Rattle.mp4_extra_media.specs.declared.ftab.TheConstants.{FTAB}
 use Rattle.mp4_extra.specs.Catalogue.{Entry, entry, type_among, Catalogue}
 use Rattle.mp4_extra.specs.declared.sound_box.TheConstants.{TYPES}
 use Rattle.mp4_extra.specs.declared.sound_box.SoundType.{SoundType}
@@ -17,6 +18,8 @@ entry_of types.Dec3Box = entry codes.DEC3 boxes.Dec3Box
 entry_of types.DflaBox = entry codes.DFLA boxes.DflaBox
 entry_of types.DopsBox = entry codes.DOPS boxes.DopsBox
 entry_of types.EndaBox = entry codes.ENDA boxes.EndaBox
+entry_of types.EsdsBox = entry codes.ESDS boxes.EsdsBox
+entry_of types.FtabBox = entry FTAB boxes.FtabBox
 entry_of types.GminBox = entry codes.GMIN boxes.GminBox
 entry_of types.HmhdBox = entry codes.HMHD boxes.HmhdBox
 entry_of types.NmhdBox = entry codes.NMHD boxes.NmhdBox
@@ -41,6 +44,8 @@ opened (boxes.Dec3Box fields) = (types.Dec3Box, fields)
 opened (boxes.DflaBox fields) = (types.DflaBox, fields)
 opened (boxes.DopsBox fields) = (types.DopsBox, fields)
 opened (boxes.EndaBox fields) = (types.EndaBox, fields)
+opened (boxes.EsdsBox fields) = (types.EsdsBox, fields)
+opened (boxes.FtabBox fields) = (types.FtabBox, fields)
 opened (boxes.GminBox fields) = (types.GminBox, fields)
 opened (boxes.HmhdBox fields) = (types.HmhdBox, fields)
 opened (boxes.NmhdBox fields) = (types.NmhdBox, fields)

@@ -5,7 +5,7 @@
 /// Matches on a value of the enum `$enum` with the same arm for each variant: it binds the box inside and evaluates the
 /// expression.
 macro_rules! each {
-    ([$($fields:ident $held:ident $code:ident),*] $enum:ident, $value:expr, $inside:ident => $answer:expr) => {
+    ([$($fields:ident $held:ident $($code:ident)::+),*] $enum:ident, $value:expr, $inside:ident => $answer:expr) => {
         match $value {
             $($enum::$held($inside) => $answer,)*
         }
@@ -14,16 +14,16 @@ macro_rules! each {
 
 /// Lists all types.
 macro_rules! types {
-    ([$($fields:ident $held:ident $code:ident),*] $types:ident) => {
+    ([$($fields:ident $held:ident $($code:ident)::+),*] $types:ident) => {
         &[$($types::$held),*]
     };
 }
 
 /// Matches on a code with an arm for each type, which is the type.
 macro_rules! by_code {
-    ([$($fields:ident $held:ident $code:ident),*] $types:ident, $found:expr) => {
+    ([$($fields:ident $held:ident $($code:ident)::+),*] $types:ident, $found:expr) => {
         match $found {
-            $(codes::$code => Some($types::$held),)*
+            $($($code)::+ => Some($types::$held),)*
             _ => None,
         }
     };
@@ -31,7 +31,7 @@ macro_rules! by_code {
 
 /// Matches on a type with an arm for each type, which reads a box of this type as a value of `$enum`.
 macro_rules! by_type {
-    ([$($fields:ident $held:ident $code:ident),*] $types:ident, $enum:ident, $of:expr, $values:tt) => {
+    ([$($fields:ident $held:ident $($code:ident)::+),*] $types:ident, $enum:ident, $of:expr, $values:tt) => {
         match $of {
             $($types::$held => read_declared::<$fields, $enum> $values,)*
         }
@@ -40,7 +40,7 @@ macro_rules! by_type {
 
 /// Prints a value of `$enum` as its variant, with the box inside.
 macro_rules! print_held {
-    ([$($fields:ident $held:ident $code:ident),*] $enum:ident, $value:expr, $f:expr) => {
+    ([$($fields:ident $held:ident $($code:ident)::+),*] $enum:ident, $value:expr, $f:expr) => {
         match $value {
             $($enum::$held(inside) => print_variant($f, stringify!($held), inside),)*
         }
@@ -116,8 +116,19 @@ pub use mp4_extra_media::dvvc::Dvvc;
 pub use mp4_extra_media::dvvc::DvvcBox;
 pub use mp4_extra_media::enda::Enda;
 pub use mp4_extra_media::enda::EndaBox;
+pub use mp4_extra_media::esds::DecoderConfig;
+pub use mp4_extra_media::esds::DecoderStream;
+pub use mp4_extra_media::esds::Descriptor;
+pub use mp4_extra_media::esds::EsDescriptor;
+pub use mp4_extra_media::esds::EsFlags;
+pub use mp4_extra_media::esds::EsOptions;
+pub use mp4_extra_media::esds::Esds;
+pub use mp4_extra_media::esds::EsdsBox;
 pub use mp4_extra_media::fiel::Fiel;
 pub use mp4_extra_media::fiel::FielBox;
+pub use mp4_extra_media::ftab::FontRecord;
+pub use mp4_extra_media::ftab::Ftab;
+pub use mp4_extra_media::ftab::FtabBox;
 pub use mp4_extra_media::gmin::Gmin;
 pub use mp4_extra_media::gmin::GminBox;
 pub use mp4_extra_media::gmin::GraphicsMode;

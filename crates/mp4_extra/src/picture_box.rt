@@ -27,25 +27,25 @@ macro_rules! of_boxes {
     ($go:ident, $($rest:tt)*) => {
         $go! {
             [
-                Auxc AuxcBox AUXC,
-                Av1c Av1cBox AV1C,
-                Avcc AvccBox AVCC,
-                Btrt BtrtBox BTRT,
-                Clap ClapBox CLAP,
-                Clli ClliBox CLLI,
-                Colr ColrBox COLR,
-                Dvcc DvccBox DVCC,
-                Dvvc DvvcBox DVVC,
-                Fiel FielBox FIEL,
-                Hvcc HvccBox HVCC,
-                Imir ImirBox IMIR,
-                Irot IrotBox IROT,
-                Ispe IspeBox ISPE,
-                Mdcv MdcvBox MDCV,
-                Pasp PaspBox PASP,
-                Pixi PixiBox PIXI,
-                Vpcc VpccBox VPCC,
-                Vvcc VvccBox VVCC
+                Auxc AuxcBox codes::AUXC,
+                Av1c Av1cBox codes::AV1C,
+                Avcc AvccBox codes::AVCC,
+                Btrt BtrtBox codes::BTRT,
+                Clap ClapBox codes::CLAP,
+                Clli ClliBox codes::CLLI,
+                Colr ColrBox codes::COLR,
+                Dvcc DvccBox codes::DVCC,
+                Dvvc DvvcBox codes::DVVC,
+                Fiel FielBox codes::FIEL,
+                Hvcc HvccBox codes::HVCC,
+                Imir ImirBox codes::IMIR,
+                Irot IrotBox codes::IROT,
+                Ispe IspeBox codes::ISPE,
+                Mdcv MdcvBox codes::MDCV,
+                Pasp PaspBox codes::PASP,
+                Pixi PixiBox codes::PIXI,
+                Vpcc VpccBox codes::VPCC,
+                Vvcc VvccBox codes::VVCC
             ]
             $($rest)*
         }

@@ -27,22 +27,22 @@ macro_rules! of_boxes {
     ($go:ident, $($rest:tt)*) => {
         $go! {
             [
-                Cslg CslgBox CSLG,
-                Leva LevaBox LEVA,
-                Mfro MfroBox MFRO,
-                Prft PrftBox PRFT,
-                Saio SaioBox SAIO,
-                Saiz SaizBox SAIZ,
-                Sbgp SbgpBox SBGP,
-                Sdtp SdtpBox SDTP,
-                Senc SencBox SENC,
-                Sgpd SgpdBox SGPD,
-                Sidx SidxBox SIDX,
-                Ssix SsixBox SSIX,
-                Styp StypBox STYP,
-                Stz2 Stz2Box STZ2,
-                Subs SubsBox SUBS,
-                Tfra TfraBox TFRA
+                Cslg CslgBox codes::CSLG,
+                Leva LevaBox codes::LEVA,
+                Mfro MfroBox codes::MFRO,
+                Prft PrftBox codes::PRFT,
+                Saio SaioBox codes::SAIO,
+                Saiz SaizBox codes::SAIZ,
+                Sbgp SbgpBox codes::SBGP,
+                Sdtp SdtpBox codes::SDTP,
+                Senc SencBox codes::SENC,
+                Sgpd SgpdBox codes::SGPD,
+                Sidx SidxBox codes::SIDX,
+                Ssix SsixBox codes::SSIX,
+                Styp StypBox codes::STYP,
+                Stz2 Stz2Box codes::STZ2,
+                Subs SubsBox codes::SUBS,
+                Tfra TfraBox codes::TFRA
             ]
             $($rest)*
         }

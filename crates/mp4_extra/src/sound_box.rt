@@ -14,6 +14,7 @@ ghost use Rattle.mp4_extra.specs.declared.sound_box.SoundBox.TheVariants as boxe
 use super::*;
 use crate::declarations::{Described, print_variant, read_declared, visit_declared};
 use mp4_compose::CodedEnum;
+use mp4_extra_media::ftab;
 use mp4_frame::{
     BoxEnum, BoxType, BoxVisitor, ByteCursor, Holds, Result, TryClone, clone_as, codes,
 };
@@ -27,23 +28,25 @@ macro_rules! of_boxes {
     ($go:ident, $($rest:tt)*) => {
         $go! {
             [
-                Alac AlacBox ALAC,
-                Chan ChanBox CHAN,
-                Chnl ChnlBox CHNL,
-                Dac3 Dac3Box DAC3,
-                Dec3 Dec3Box DEC3,
-                Dfla DflaBox DFLA,
-                Dops DopsBox DOPS,
-                Enda EndaBox ENDA,
-                Gmin GminBox GMIN,
-                Hmhd HmhdBox HMHD,
-                Nmhd NmhdBox NMHD,
-                Srat SratBox SRAT,
-                Sthd SthdBox STHD,
-                Stpp StppBox STPP,
-                Tcmi TcmiBox TCMI,
-                Text TextBox TEXT,
-                Wvtt WvttBox WVTT
+                Alac AlacBox codes::ALAC,
+                Chan ChanBox codes::CHAN,
+                Chnl ChnlBox codes::CHNL,
+                Dac3 Dac3Box codes::DAC3,
+                Dec3 Dec3Box codes::DEC3,
+                Dfla DflaBox codes::DFLA,
+                Dops DopsBox codes::DOPS,
+                Enda EndaBox codes::ENDA,
+                Esds EsdsBox codes::ESDS,
+                Ftab FtabBox ftab::FTAB,
+                Gmin GminBox codes::GMIN,
+                Hmhd HmhdBox codes::HMHD,
+                Nmhd NmhdBox codes::NMHD,
+                Srat SratBox codes::SRAT,
+                Sthd SthdBox codes::STHD,
+                Stpp StppBox codes::STPP,
+                Tcmi TcmiBox codes::TCMI,
+                Text TextBox codes::TEXT,
+                Wvtt WvttBox codes::WVTT
             ]
             $($rest)*
         }
@@ -61,6 +64,8 @@ pub enum SoundBox {
     DflaBox(DflaBox),
     DopsBox(DopsBox),
     EndaBox(EndaBox),
+    EsdsBox(EsdsBox),
+    FtabBox(FtabBox),
     GminBox(GminBox),
     HmhdBox(HmhdBox),
     NmhdBox(NmhdBox),
@@ -83,6 +88,8 @@ pub enum SoundType {
     DflaBox,
     DopsBox,
     EndaBox,
+    EsdsBox,
+    FtabBox,
     GminBox,
     HmhdBox,
     NmhdBox,
@@ -132,6 +139,8 @@ impl SoundDeclarations for SoundBox {
       | types.DflaBox ↦ valid_as ⟦<Dfla as Described>⟧.declaration refl
       | types.DopsBox ↦ valid_as ⟦<Dops as Described>⟧.declaration refl
       | types.EndaBox ↦ valid_as ⟦<Enda as Described>⟧.declaration refl
+      | types.EsdsBox ↦ valid_as ⟦<Esds as Described>⟧.declaration refl
+      | types.FtabBox ↦ valid_as ⟦<Ftab as Described>⟧.declaration refl
       | types.GminBox ↦ valid_as ⟦<Gmin as Described>⟧.declaration refl
       | types.HmhdBox ↦ valid_as ⟦<Hmhd as Described>⟧.declaration refl
       | types.NmhdBox ↦ valid_as ⟦<Nmhd as Described>⟧.declaration refl
@@ -259,6 +268,22 @@ impl Holds<EndaBox> for SoundBox {
 
     fn wrap(value: EndaBox) -> SoundBox {
         SoundBox::EndaBox(value)
+    }
+}
+
+impl Holds<EsdsBox> for SoundBox {
+    ghost wrapped = { boxes.EsdsBox };
+
+    fn wrap(value: EsdsBox) -> SoundBox {
+        SoundBox::EsdsBox(value)
+    }
+}
+
+impl Holds<FtabBox> for SoundBox {
+    ghost wrapped = { boxes.FtabBox };
+
+    fn wrap(value: FtabBox) -> SoundBox {
+        SoundBox::FtabBox(value)
     }
 }
 

@@ -27,25 +27,25 @@ macro_rules! of_boxes {
     ($go:ident, $($rest:tt)*) => {
         $go! {
             [
-                Alis AlisBox ALIS,
-                Data DataBox DATA,
-                Elng ElngBox ELNG,
-                Frma FrmaBox FRMA,
-                Hdlr HdlrBox HDLR,
-                Iloc IlocBox ILOC,
-                Infe InfeBox INFE,
-                Iods IodsBox IODS,
-                Ipma IpmaBox IPMA,
-                Keys KeysBox KEYS,
-                Kind KindBox KIND,
-                Mean MeanBox MEAN,
-                Name NameBox TAG_NAME,
-                Pitm PitmBox PITM,
-                Pssh PsshBox PSSH,
-                Schm SchmBox SCHM,
-                Tenc TencBox TENC,
-                Tref TrefBox TREF,
-                Urn UrnBox URN
+                Alis AlisBox codes::ALIS,
+                Data DataBox codes::DATA,
+                Elng ElngBox codes::ELNG,
+                Frma FrmaBox codes::FRMA,
+                Hdlr HdlrBox codes::HDLR,
+                Iloc IlocBox codes::ILOC,
+                Infe InfeBox codes::INFE,
+                Iods IodsBox codes::IODS,
+                Ipma IpmaBox codes::IPMA,
+                Keys KeysBox codes::KEYS,
+                Kind KindBox codes::KIND,
+                Mean MeanBox codes::MEAN,
+                Name NameBox codes::TAG_NAME,
+                Pitm PitmBox codes::PITM,
+                Pssh PsshBox codes::PSSH,
+                Schm SchmBox codes::SCHM,
+                Tenc TencBox codes::TENC,
+                Tref TrefBox codes::TREF,
+                Urn UrnBox codes::URN
             ]
             $($rest)*
         }

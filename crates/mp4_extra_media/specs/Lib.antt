@@ -12,3 +12,9 @@ pub mod TailLaws
 pub mod ShownTail
 pub mod AvcProfile
 pub mod AvcLeast
+pub mod Expandable
+pub mod ExpandableLaws
+pub mod Tagged
+pub mod TaggedLaws
+pub mod AudioConfig
+pub mod ShownDescriptors

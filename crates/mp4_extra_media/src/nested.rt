@@ -6,6 +6,7 @@ ghost use Rattle.mp4_declared.specs.DeclaredEntryLaws.{laws_of_entry};
 
 use mp4_declared::{Context, DeclaredEntry, EntryVisitor, PutShape, Shape};
 use mp4_frame::Result;
+use mp4_shown::{FieldSink, HasFields, NamedShape, ShowShape, View};
 use std::alloc::Global;
 
 /// The size of the content in bytes.
@@ -121,5 +122,33 @@ impl<'a, X: DeclaredEntry> PutShape<&'a X> for Nested<X> {
     #[inline]
     fn put(out: &mut [u8], at: usize, context: Context, value: &'a X) -> usize {
         value.visit(PutNested { context, at }, out)
+    }
+}
+
+/// The fields of the struct are shown among those of the box.
+impl<X: HasFields> NamedShape for Nested<X> {
+    type Value = X;
+
+    type Names = ();
+
+    ghost Seen = { Unit {0} };
+
+    ghost seen = { λ names. names };
+
+    ghost shown = { λ names view x. X.shown view x };
+
+    ghost whole = { λ names view x. X.whole view x };
+}
+
+impl<'a, X: HasFields> ShowShape<&'a X> for Nested<X> {
+    ghost content = { λ x. x.now };
+
+    fn show<K: FieldSink>(
+        _names: &(),
+        view: View,
+        value: &&'a X,
+        sink: &mut K,
+    ) -> mp4_shown::Result<()> {
+        value.show(view, sink)
     }
 }

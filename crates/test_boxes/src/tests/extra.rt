@@ -2,6 +2,7 @@
 //! flag. Such values cannot be read from bytes, so a row (bytes with the expected result) cannot cover them.
 
 mod configurations;
+mod descriptors;
 mod items;
 mod lists;
 mod numbers;

@@ -53,6 +53,18 @@ returns-in-EndaBox-clause-answer c =
     c.args.reader.now.bytes.now (c.args.reader.now.position - 8) c.args.size c.in-EndaBox.is
     c.read_declared-in-EndaBox.ensures.answer
 
+pub returns-in-EsdsBox-clause-answer : goal.returns-in-EsdsBox-clause-answer
+returns-in-EsdsBox-clause-answer c =
+    same_reading sound_types ghosts.declared c.args.of types.EsdsBox c.read_declared-in-EsdsBox.result
+    c.args.reader.now.bytes.now (c.args.reader.now.position - 8) c.args.size c.in-EsdsBox.is
+    c.read_declared-in-EsdsBox.ensures.answer
+
+pub returns-in-FtabBox-clause-answer : goal.returns-in-FtabBox-clause-answer
+returns-in-FtabBox-clause-answer c =
+    same_reading sound_types ghosts.declared c.args.of types.FtabBox c.read_declared-in-FtabBox.result
+    c.args.reader.now.bytes.now (c.args.reader.now.position - 8) c.args.size c.in-FtabBox.is
+    c.read_declared-in-FtabBox.ensures.answer
+
 pub returns-in-GminBox-clause-answer : goal.returns-in-GminBox-clause-answer
 returns-in-GminBox-clause-answer c =
     same_reading sound_types ghosts.declared c.args.of types.GminBox c.read_declared-in-GminBox.result

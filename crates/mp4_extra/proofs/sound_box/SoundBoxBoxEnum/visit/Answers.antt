@@ -48,6 +48,18 @@ visit_declared-requires-in-EndaBox g c = rw c.in-EndaBox.is at c.requires
 pub returns-in-EndaBox : goal.returns-in-EndaBox
 returns-in-EndaBox g c = rw c.in-EndaBox.is c.visit_declared-in-EndaBox.ensures
 
+pub visit_declared-requires-in-EsdsBox : goal.visit_declared-requires-in-EsdsBox
+visit_declared-requires-in-EsdsBox g c = rw c.in-EsdsBox.is at c.requires
+
+pub returns-in-EsdsBox : goal.returns-in-EsdsBox
+returns-in-EsdsBox g c = rw c.in-EsdsBox.is c.visit_declared-in-EsdsBox.ensures
+
+pub visit_declared-requires-in-FtabBox : goal.visit_declared-requires-in-FtabBox
+visit_declared-requires-in-FtabBox g c = rw c.in-FtabBox.is at c.requires
+
+pub returns-in-FtabBox : goal.returns-in-FtabBox
+returns-in-FtabBox g c = rw c.in-FtabBox.is c.visit_declared-in-FtabBox.ensures
+
 pub visit_declared-requires-in-GminBox : goal.visit_declared-requires-in-GminBox
 visit_declared-requires-in-GminBox g c = rw c.in-GminBox.is at c.requires
 

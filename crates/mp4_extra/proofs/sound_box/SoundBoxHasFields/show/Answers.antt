@@ -43,6 +43,16 @@ returns-in-EndaBox g c =
     same_events sound_types ghosts.declared g.K.FieldSink.trace g.K.FieldSink.after c.show-in-EndaBox.result
     c.args.sink.now c.show-in-EndaBox.new.sink c.args.view c.args.self.now _ c.in-EndaBox.is c.show-in-EndaBox.ensures
 
+pub returns-in-EsdsBox : goal.returns-in-EsdsBox
+returns-in-EsdsBox g c =
+    same_events sound_types ghosts.declared g.K.FieldSink.trace g.K.FieldSink.after c.show-in-EsdsBox.result
+    c.args.sink.now c.show-in-EsdsBox.new.sink c.args.view c.args.self.now _ c.in-EsdsBox.is c.show-in-EsdsBox.ensures
+
+pub returns-in-FtabBox : goal.returns-in-FtabBox
+returns-in-FtabBox g c =
+    same_events sound_types ghosts.declared g.K.FieldSink.trace g.K.FieldSink.after c.show-in-FtabBox.result
+    c.args.sink.now c.show-in-FtabBox.new.sink c.args.view c.args.self.now _ c.in-FtabBox.is c.show-in-FtabBox.ensures
+
 pub returns-in-GminBox : goal.returns-in-GminBox
 returns-in-GminBox g c =
     same_events sound_types ghosts.declared g.K.FieldSink.trace g.K.FieldSink.after c.show-in-GminBox.result
