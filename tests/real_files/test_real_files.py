@@ -33,7 +33,7 @@ FEWEST = 40
 # The largest file in bytes.
 LARGEST = 100000
 # The least share of boxes with a type in trees, and of boxes that are shown with fields, in hundredths.
-TYPED, SHOWN = 88, 96
+TYPED, SHOWN = 98, 96
 # The ways in which a tree keeps a box of a declared type without the type: as bytes, or in a box that it keeps as
 # bytes.
 UNTYPED = ["raw", "hidden"]

@@ -8,12 +8,14 @@ use Rattle.std.proofs.lemmas.List.{length-take-le, take-append-drop}
 use Rattle.mp4_frame.specs.Bytes.{number}
 use Rattle.mp4_frame.specs.declared.codes.TheConstants as codes
 use Rattle.mp4_frame.proofs.Numbers.{number-front}
-use Rattle.mp4_walk.specs.Fronts.{is_container, is_video, is_sound, is_full_meta, sound_front, length_of, front_of}
+use Rattle.mp4_walk.specs.Fronts.{is_container, is_full_meta, sound_front, length_of, front_of}
 use Rattle.mp4_walk.specs.Peek.{peek, number_or_zero}
 use Rattle.mp4_walk.specs.declared.fronts.Front.{Front}
 use Rattle.mp4_walk.specs.declared.fronts.Front.TheVariants as fronts
 use Rattle.mp4_walk.specs.declared.peek.Peek.{Peek}
+use Rattle.mp4_box_tree.specs.EntryCodes.{is_item, is_more_sound, is_more_video}
 use Rattle.mp4_box_tree.specs.Fronts.{audio_fields, begins_with_zeros, context_of, length_if_any, width_in, is_front}
+use Rattle.mp4_box_tree.specs.Fronts.{is_plain_entry, is_sound_entry, is_video_entry}
 
 -- what determines the length of the fields, in boxes of one code
 data By : Type 0 where
@@ -29,72 +31,127 @@ width_by Version w = cond (w.version == 0) 6 8
 width_by EntryVersion w = length_of (sound_front 0 w.entry_version)
 
 -- the tests of a code, in their order
-abbrev by_tests : Bool → Bool → Bool → Bool → Bool → Bool → Bool → Bool → By
-by_tests video sound alone meta full short list count =
-    cond video (Same 78) (cond sound EntryVersion (cond alone (Same 0) (cond meta Zeros (cond full (Same 4)
-    (cond short (Same 6) (cond list Version (cond count (Same 8) (Same 0))))))))
+abbrev by_tests : Bool → Bool → Bool → Bool → Bool → Bool → Bool → Bool → Bool → Bool → Bool → Bool → By
+by_tests video sound text entry item header alone meta full short list count =
+    cond video (Same 78) (cond sound EntryVersion (cond text (Same 38) (cond entry (Same 8) (cond item (Same 0)
+    (cond header (Same 0) (cond alone (Same 0) (cond meta Zeros (cond full (Same 4)
+    (cond short (Same 6) (cond list Version (cond count (Same 8) (Same 0))))))))))))
 
 abbrev by_code : ℕ → By
 by_code code =
-    by_tests (is_video code) (is_sound code) (is_container code) (code == codes.META) (code == codes.IREF)
+    by_tests (is_video_entry code) (is_sound_entry code) (code == codes.TX3G) (is_plain_entry code) (is_item code)
+    (code == codes.TMCD) (is_container code) (code == codes.META) (code == codes.IREF)
     ((code == codes.IPRO) || (code == codes.FIIN)) (code == codes.IINF)
     ((code == codes.STSD) || ((code == codes.DREF) || (code == codes.TREP)))
-
-video_width : (code : ℕ) (w : Peek) → is_video code ≡ true → length_if_any (front_of (context_of code) code w) ≡ 78
-unfolding front_of
-video_width code w e = rw e refl
-
-sound_width : (code : ℕ) (w : Peek) → is_video code ≡ false → is_sound code ≡ true
-    → length_if_any (front_of (context_of code) code w) ≡ length_of (sound_front 0 w.entry_version)
-unfolding front_of
-sound_width code w e f = rw (e, f) refl
-
-other_width : (code : ℕ) (w : Peek) → is_video code ≡ false → is_sound code ≡ false
-    → (alone meta full short list count : Bool) → is_container code ≡ alone → (code == codes.META) ≡ meta
-    → (code == codes.IREF) ≡ full → ((code == codes.IPRO) || (code == codes.FIIN)) ≡ short
-    → (code == codes.IINF) ≡ list → ((code == codes.STSD) || ((code == codes.DREF) || (code == codes.TREP))) ≡ count
-    → length_if_any (front_of (context_of code) code w)
-    ≡ width_by (by_tests false false alone meta full short list count) w
-unfolding front_of
-other_width code w e f true meta full short list count a b c d g h = rw (e, f, a) refl
-other_width code w e f false true full short list count a b c d g h =
-    rw (e, f, a, b) (cond_both (is_full_meta w) fronts.FullBox fronts.Nothing
-    (λ (x : Front). length_of x ≡ cond (is_full_meta w) 4 0)
-    (λ t. rw t refl) (λ t. rw t refl))
-other_width code w e f false false true short list count a b c d g h = rw (e, f, a, b, c) refl
-other_width code w e f false false false true list count a b c d g h = rw (e, f, a, b, c, d) refl
-other_width code w e f false false false false true count a b c d g h =
-    rw (e, f, a, b, c, d, g) (cond_both (w.version == 0) fronts.ShortCount fronts.Count
-    (λ (x : Front). length_of x ≡ cond (w.version == 0) 6 8)
-    (λ t. rw t refl) (λ t. rw t refl))
-other_width code w e f false false false false false true a b c d g h = rw (e, f, a, b, c, d, g, h) refl
-other_width code w e f false false false false false false a b c d g h = rw (e, f, a, b, c, d, g, h) refl
 
 abbrev width_of : ℕ → Peek → ℕ
 width_of code w = length_if_any (front_of (context_of code) code w)
 
-width_is_by : (code : ℕ) (w : Peek) → (video sound : Bool) → is_video code ≡ video → is_sound code ≡ sound
-    → width_of code w ≡ width_by (by_code code) w
-width_is_by code w true sound e f =
+abbrev IsBy : ℕ → Peek → Type 0
+IsBy code w = width_of code w ≡ width_by (by_code code) w
+
+-- the codes that no list has
+text_is_by : (w : Peek) → IsBy codes.TX3G w
+unfolding front_of is_video_entry is_sound_entry is_item is_more_video is_more_sound
+text_is_by w = refl
+
+webvtt_is_by : (w : Peek) → IsBy codes.WVTT w
+unfolding front_of is_video_entry is_sound_entry is_item is_more_video is_more_sound
+webvtt_is_by w = refl
+
+systems_is_by : (w : Peek) → IsBy codes.MP4S w
+unfolding front_of is_video_entry is_sound_entry is_item is_more_video is_more_sound
+systems_is_by w = refl
+
+uri_is_by : (w : Peek) → IsBy codes.URIM w
+unfolding front_of is_video_entry is_sound_entry is_item is_more_video is_more_sound
+uri_is_by w = refl
+
+timecode_is_by : (w : Peek) → IsBy codes.TMCD w
+unfolding front_of is_video_entry is_sound_entry is_item is_more_video is_more_sound
+timecode_is_by w = refl
+
+literal_is_by : (k : ℕ) → ((w : Peek) → IsBy k w) → (code : ℕ) (w : Peek) → (code == k) ≡ true → IsBy code w
+literal_is_by k is code w e = rw (eqb-true code k e) (is w)
+
+video_width : (code : ℕ) (w : Peek) → is_video_entry code ≡ true → width_of code w ≡ 78
+unfolding front_of
+video_width code w e = rw e refl
+
+sound_width : (code : ℕ) (w : Peek) → is_video_entry code ≡ false → is_sound_entry code ≡ true
+    → width_of code w ≡ length_of (sound_front 0 w.entry_version)
+unfolding front_of
+sound_width code w e f = rw (e, f) refl
+
+module _ (code : ℕ) (w : Peek) (video : is_video_entry code ≡ false) (sound : is_sound_entry code ≡ false)
+    (text : (code == codes.TX3G) ≡ false) (plain : is_plain_entry code ≡ false) where
+  item_width : is_item code ≡ true → width_of code w ≡ 0
+  unfolding front_of
+  item_width i = rw (video, sound, text, plain, i) refl
+
+  other_width : is_item code ≡ false → (code == codes.TMCD) ≡ false
+      → (alone meta full short list count : Bool) → is_container code ≡ alone → (code == codes.META) ≡ meta
+      → (code == codes.IREF) ≡ full → ((code == codes.IPRO) || (code == codes.FIIN)) ≡ short
+      → (code == codes.IINF) ≡ list → ((code == codes.STSD) || ((code == codes.DREF) || (code == codes.TREP))) ≡ count
+      → width_of code w ≡ width_by (by_tests false false false false false false alone meta full short list count) w
+  unfolding front_of
+  other_width i h true meta full short list count a b c d g k = rw (video, sound, text, plain, i, h, a) refl
+  other_width i h false true full short list count a b c d g k =
+      rw (video, sound, text, plain, i, h, a, b) (cond_both (is_full_meta w) fronts.FullBox fronts.Nothing
+      (λ (x : Front). length_of x ≡ cond (is_full_meta w) 4 0)
+      (λ t. rw t refl) (λ t. rw t refl))
+  other_width i h false false true short list count a b c d g k =
+      rw (video, sound, text, plain, i, h, a, b, c) refl
+  other_width i h false false false true list count a b c d g k =
+      rw (video, sound, text, plain, i, h, a, b, c, d) refl
+  other_width i h false false false false true count a b c d g k =
+      rw (video, sound, text, plain, i, h, a, b, c, d, g) (cond_both (w.version == 0) fronts.ShortCount fronts.Count
+      (λ (x : Front). length_of x ≡ cond (w.version == 0) 6 8)
+      (λ t. rw t refl) (λ t. rw t refl))
+  other_width i h false false false false false true a b c d g k =
+      rw (video, sound, text, plain, i, h, a, b, c, d, g, k) refl
+  other_width i h false false false false false false a b c d g k =
+      rw (video, sound, text, plain, i, h, a, b, c, d, g, k) refl
+
+named_is_by : (code : ℕ) (w : Peek) → (code == codes.TX3G) ≡ false → is_plain_entry code ≡ false
+    → (code == codes.TMCD) ≡ false → (video sound item : Bool) → is_video_entry code ≡ video
+    → is_sound_entry code ≡ sound → is_item code ≡ item → IsBy code w
+named_is_by code w t p h true sound item e f i =
     let by : width_by (by_code code) w ≡ 78 = rw e refl in video_width code w e ∙ sym by
-width_is_by code w false true e f =
+named_is_by code w t p h false true item e f i =
     let by : width_by (by_code code) w ≡ length_of (sound_front 0 w.entry_version) = rw (e, f) refl in
     sound_width code w e f ∙ sym by
-width_is_by code w false false e f =
+named_is_by code w t p h false false true e f i =
+    let by : width_by (by_code code) w ≡ 0 = rw (e, f, t, p, i) refl in item_width code w e f t p i ∙ sym by
+named_is_by code w t p h false false false e f i =
     let short = (code == codes.IPRO) || (code == codes.FIIN) in
     let count = (code == codes.STSD) || ((code == codes.DREF) || (code == codes.TREP)) in
-    let by : width_by (by_code code) w ≡ width_by (by_tests false false (is_container code) (code == codes.META)
-    (code == codes.IREF) short (code == codes.IINF) count) w = rw (e, f) refl in
-    other_width code w e f (is_container code) (code == codes.META) (code == codes.IREF) short (code == codes.IINF)
-    count refl refl refl refl refl refl
+    let by : width_by (by_code code) w ≡ width_by (by_tests false false false false false false (is_container code)
+    (code == codes.META) (code == codes.IREF) short (code == codes.IINF) count) w = rw (e, f, t, p, i, h) refl in
+    other_width code w e f t p i h (is_container code) (code == codes.META) (code == codes.IREF) short
+    (code == codes.IINF) count refl refl refl refl refl refl
     ∙ sym by
+
+width_is_by : (code : ℕ) (w : Peek) → (text webvtt systems uri timecode : Bool) → (code == codes.TX3G) ≡ text
+    → (code == codes.WVTT) ≡ webvtt → (code == codes.MP4S) ≡ systems → (code == codes.URIM) ≡ uri
+    → (code == codes.TMCD) ≡ timecode → IsBy code w
+width_is_by code w true webvtt systems uri timecode a b c d h = literal_is_by codes.TX3G text_is_by code w a
+width_is_by code w false true systems uri timecode a b c d h = literal_is_by codes.WVTT webvtt_is_by code w b
+width_is_by code w false false true uri timecode a b c d h = literal_is_by codes.MP4S systems_is_by code w c
+width_is_by code w false false false true timecode a b c d h = literal_is_by codes.URIM uri_is_by code w d
+width_is_by code w false false false false true a b c d h = literal_is_by codes.TMCD timecode_is_by code w h
+width_is_by code w false false false false false a b c d h =
+    let plain : is_plain_entry code ≡ false = rw (b, c, d) refl in
+    named_is_by code w a plain h (is_video_entry code) (is_sound_entry code) (is_item code) refl refl refl
 
 abbrev peek_of : List ℕ → Peek
 peek_of content = peek content 0 (length content)
 
 width_as : (code : ℕ) (content : List ℕ) → width_in code content ≡ width_by (by_code code) (peek_of content)
 unfolding width_in
-width_as code content = width_is_by code (peek_of content) (is_video code) (is_sound code) refl refl
+width_as code content =
+    width_is_by code (peek_of content) (code == codes.TX3G) (code == codes.WVTT) (code == codes.MP4S)
+    (code == codes.URIM) (code == codes.TMCD) refl refl refl refl refl
 
 abbrev pub by_version : ℕ → ℕ
 by_version n = cond (n == 1) 44 (cond (n == 2) 64 28)

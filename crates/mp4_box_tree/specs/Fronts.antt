@@ -8,13 +8,38 @@ use Rattle.mp4_walk.specs.Fronts.{is_video, is_sound, length_of, is_present, sou
 use Rattle.mp4_walk.specs.Peek.{peek, number_or_zero, no_content}
 use Rattle.mp4_walk.specs.declared.fronts.Front.{Front}
 use Rattle.mp4_walk.specs.declared.walk_context.WalkContext.{WalkContext}
+use Rattle.mp4_box_tree.specs.EntryCodes.{is_item, is_more_sound, is_more_video}
+
+unfoldable pub is_video_entry : ℕ → Bool
+is_video_entry code = is_video code || is_more_video code
+
+unfoldable pub is_sound_entry : ℕ → Bool
+is_sound_entry code = is_sound code || is_more_sound code
+
+-- entries that are neither video nor sound and have only the fields of any entry before their boxes
+abbrev pub is_plain_entry : ℕ → Bool
+is_plain_entry code = (code == codes.WVTT) || ((code == codes.MP4S) || (code == codes.URIM))
+
+abbrev pub is_other_entry : ℕ → Bool
+is_other_entry code = (code == codes.TX3G) || is_plain_entry code
 
 abbrev pub is_entry : ℕ → Bool
-is_entry code = is_video code || is_sound code
+is_entry code = is_video_entry code || (is_sound_entry code || is_other_entry code)
 
--- the context in which a tree reads a box. A code of a video or sound entry means that the box is one
+-- the box around a box, by the code of the box: a tree takes a box with the code of an entry or of an item for one, and
+-- a `tmcd` for the box of this name in a `gmhd`
+abbrev pub parent_of : ℕ → ℕ
+parent_of code =
+    if is_entry code then codes.STSD else if is_item code then codes.ILST else
+    if code == codes.TMCD then codes.GMHD else 0
+
+-- the handler of the media around a box, by the code of the box
+abbrev pub handler_of : ℕ → ℕ
+handler_of code = if is_video_entry code then codes.VIDE else if is_sound_entry code then codes.SOUN else 0
+
+-- the context in which a tree reads a box
 abbrev pub context_of : ℕ → WalkContext
-context_of code = record { parent = if is_entry code then codes.STSD else 0; handler = 0; stsd_version = 0 }
+context_of code = record { parent = parent_of code; handler = handler_of code; stsd_version = 0 }
 
 -- a container holds boxes with this code. No bytes of the content change that
 unfoldable pub is_parent : ℕ → Bool

@@ -1,3 +1,4 @@
+pub mod EntryCodes
 pub mod Fronts
 pub mod FrontLaws
 pub mod SampleEntry

@@ -2,9 +2,8 @@
 use Rattle.std.specs.Prelude.{ℕ, ◌==◌, ◌&&◌, nat_le, List, [], ◌∷◌, ◌++◌, length, take, drop, if◌then◌else◌}
 use Rattle.std.specs.Prelude.{Option, None, Some}
 use Rattle.mp4_frame.specs.Bytes.{number, be_bytes, bytes_of_fields}
-use Rattle.mp4_walk.specs.Fronts.{is_video, is_sound}
 use Rattle.mp4_walk.specs.declared.fronts.TheConstants as lengths
-use Rattle.mp4_box_tree.specs.Fronts.{audio_fields}
+use Rattle.mp4_box_tree.specs.Fronts.{audio_fields, is_sound_entry, is_video_entry}
 use Rattle.mp4_box_tree.specs.declared.sample_entry.AudioFields.{AudioFields}
 use Rattle.mp4_box_tree.specs.declared.sample_entry.AudioFirst.{AudioFirst}
 use Rattle.mp4_box_tree.specs.declared.sample_entry.AudioSecond.{AudioSecond}
@@ -35,7 +34,7 @@ visual_in fields = visual_at (number fields) (take 32 (drop 42 fields))
 -- the fields of a box with this code, if it is a video sample entry
 abbrev pub visual_of : ℕ → List ℕ → Option VisualFields
 visual_of code fields =
-    if is_video code && (length fields == lengths.VIDEO_ENTRY_LENGTH) then Some (visual_in fields) else None
+    if is_video_entry code && (length fields == lengths.VIDEO_ENTRY_LENGTH) then Some (visual_in fields) else None
 
 -- the written fields: reserved bytes are 0, and all bits of the last two bytes are set
 abbrev pub front_visual : VisualFields → List (ℕ × ℕ)
@@ -88,7 +87,7 @@ audio_at at = record {
 -- the fields of a box with this code, if it is an audio sample entry
 abbrev pub audio_of : ℕ → List ℕ → Option AudioFields
 audio_of code fields =
-    if is_sound code && (length fields == audio_fields fields) then Some (audio_at (number fields)) else None
+    if is_sound_entry code && (length fields == audio_fields fields) then Some (audio_at (number fields)) else None
 
 -- the written fields of all versions, before those of one version
 abbrev pub common_fields : ℕ → AudioFields → List (ℕ × ℕ) → List (ℕ × ℕ)

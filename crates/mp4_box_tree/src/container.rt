@@ -21,7 +21,8 @@ use std::alloc::Global;
 ///
 /// - a box that holds only boxes, such as `moov` (`mp4_walk::is_container`),
 /// - a `meta`, `iref`, `ipro`, `iinf`, `fiin`, `stsd`, `dref` or `trep`,
-/// - a sample entry of video or audio.
+/// - a sample entry of video, audio or text,
+/// - an item of an `ilst`, or a `tmcd` of a `gmhd`.
 #[derive(Debug, Drop, PartialEq, Eq)]
 pub struct Container<B> {
     /// The code.

@@ -3,21 +3,81 @@
 ghost use Rattle.std.specs.Prelude.{◌≡◌, length};
 ghost use Rattle.mp4_walk.specs.Peek.{peek};
 ghost use Rattle.mp4_box_tree.specs.Fronts.{context_of, front_in, is_parent, width_in, audio_fields};
+ghost use Rattle.mp4_box_tree.specs.Fronts.{handler_of, is_entry, is_other_entry, is_sound_entry, is_video_entry};
+ghost use Rattle.mp4_box_tree.specs.Fronts.{parent_of};
 
-use mp4_frame::codes::STSD;
+use crate::entry_codes::{is_item, is_more_sound, is_more_video};
+use mp4_frame::codes::{GMHD, ILST, MP4S, SOUN, STSD, TMCD, TX3G, URIM, VIDE, WVTT};
 use mp4_walk::{
     Front, NO_CONTENT, Peek, WalkContext, front_of, is_sound, is_video, peek_at, sound_front,
 };
 
-/// Returns the context in which a tree reads a box with this `code`. The code of a video or sound entry means that the
-/// box is one, in an `stsd` of version 0.
+/// Returns whether boxes with this `code` are video entries.
+#[tactic(auto, unfolding(crate::specs::Fronts::is_video_entry))]
+pub(crate) fn is_video_entry(code: u32) -> bool
+    ensures { result ≡ is_video_entry code }
+{
+    is_video(code) || is_more_video(code)
+}
+
+/// Returns whether boxes with this `code` are sound entries.
+#[tactic(auto, unfolding(crate::specs::Fronts::is_sound_entry))]
+pub(crate) fn is_sound_entry(code: u32) -> bool
+    ensures { result ≡ is_sound_entry code }
+{
+    is_sound(code) || is_more_sound(code)
+}
+
+/// Returns whether boxes with this `code` are other entries that hold boxes.
+fn is_other_entry(code: u32) -> bool
+    ensures { result ≡ is_other_entry code }
+{
+    matches!(code, TX3G | WVTT | MP4S | URIM)
+}
+
+/// Returns whether boxes with this `code` are sample entries that hold boxes.
+fn is_entry(code: u32) -> bool
+    ensures { result ≡ is_entry code }
+{
+    is_video_entry(code) || (is_sound_entry(code) || is_other_entry(code))
+}
+
+/// Returns the code of the box in which boxes with this `code` hold boxes, or 0 if that does not matter.
+fn parent_of(code: u32) -> u32
+    ensures { result ≡ parent_of code }
+{
+    if is_entry(code) {
+        STSD
+    } else if is_item(code) {
+        ILST
+    } else if code == TMCD {
+        GMHD
+    } else {
+        0
+    }
+}
+
+/// Returns the handler of media with entries of this `code`, or 0 if there is none.
+fn handler_of(code: u32) -> u32
+    ensures { result ≡ handler_of code }
+{
+    if is_video_entry(code) {
+        VIDE
+    } else if is_sound_entry(code) {
+        SOUN
+    } else {
+        0
+    }
+}
+
+/// Returns the context in which a tree reads a box with this `code`. The code of an entry or of an item means that the
+/// box is one, in an `stsd` of version 0 or in an `ilst`.
 fn context_of(code: u32) -> WalkContext
     ensures { result ≡ context_of code }
 {
-    let is_entry = is_video(code) || is_sound(code);
     WalkContext {
-        parent: if is_entry { STSD } else { 0 },
-        handler: 0,
+        parent: parent_of(code),
+        handler: handler_of(code),
         stsd_version: 0,
     }
 }

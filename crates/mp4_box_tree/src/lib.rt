@@ -5,6 +5,7 @@ mod box_tree;
 mod child;
 mod container;
 mod declared_container;
+mod entry_codes;
 mod fronts;
 pub mod laws;
 mod node;

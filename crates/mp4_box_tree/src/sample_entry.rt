@@ -10,14 +10,13 @@ ghost use Rattle.mp4_box_tree.specs.SampleEntry.{common_fields, first_fields, se
 ghost use Rattle.mp4_box_tree.specs.SampleEntry.{versioned_fields, bytes_audio};
 
 use crate::container::Container;
-use crate::fronts::audio_fields;
+use crate::fronts::{audio_fields, is_sound_entry, is_video_entry};
 use mp4_frame::{
     Entries, Result, put_bytes, put_u16, put_u32, put_u64, put_zeros, u16_at, u32_at, u64_at,
 };
 use mp4_media::FixedPointU16;
 use mp4_walk::{
     QUICKTIME_SOUND_1_LENGTH, QUICKTIME_SOUND_2_LENGTH, SOUND_ENTRY_LENGTH, VIDEO_ENTRY_LENGTH,
-    is_sound, is_video,
 };
 use std::alloc::Global;
 
@@ -419,7 +418,7 @@ impl<B> Container<B> {
         ensures { result ≡ visual_of self.now.code self.now.fields }
     {
         let fields = self.fields.as_slice();
-        if is_video(self.code) && fields.len() == VIDEO_ENTRY_LENGTH as usize {
+        if is_video_entry(self.code) && fields.len() == VIDEO_ENTRY_LENGTH as usize {
             Some(VisualFields::from_bytes(fields))
         } else {
             None
@@ -432,7 +431,7 @@ impl<B> Container<B> {
         ensures { result ≡ audio_of self.now.code self.now.fields }
     {
         let fields = self.fields.as_slice();
-        if is_sound(self.code) && fields.len() == audio_fields(fields) {
+        if is_sound_entry(self.code) && fields.len() == audio_fields(fields) {
             Some(audio_at(fields))
         } else {
             None
