@@ -58,6 +58,19 @@ RAW = {
     "**/mdia/*": mdhd(600) + mdhd(48000),
     "**/moov/free": INNER,
 }
+# Boxes whose codes have signs of patterns, and the bytes at each path.
+SIGNS = bytes.fromhex("00000009 615b2a5d 70 00000009 2a5b2a5d 71 00000009 615b2a5d 72 00000009 5b31325d 73")
+ODD = {
+    "a[*]": SIGNS[:9],
+    "a[*][0]": SIGNS[:9],
+    "a[*][1]": SIGNS[18:27],
+    "a[*][*]": SIGNS[:9] + SIGNS[18:27],
+    "**/a[*]": SIGNS[:9] + SIGNS[18:27],
+    "**/a[*][1]": SIGNS[18:27],
+    "*[*]": SIGNS[9:18],
+    "[12]": SIGNS[27:],
+    "*": SIGNS,
+}
 # The contents at each path.
 CONTENTS = {
     "ftyp": FTYP[8:],
@@ -77,9 +90,14 @@ WRONG = {
     "**": "part 0 of the path has no code of four characters",
     "moov/**/mdhd": "part 1 of the path has no code of four characters",
     "**/": "part 0 of the path has no code of four characters",
+    "[*]": "part 0 of the path has no code of four characters",
+    "moov/[*]": "part 1 of the path has no code of four characters",
+    "**/moov/[*]": "part 1 of the path has no code of four characters",
     "moov/trak[x]": "part 1 of the path has no number in brackets after its code",
     "moov/trak1": "part 1 of the path has no number in brackets after its code",
     "moov/trak[1][*]": "part 1 of the path has no number in brackets after its code",
+    "moov/trak[*][1]": "part 1 of the path has no number in brackets after its code",
+    "**/trak[*]x": "part 0 of the path has no number in brackets after its code",
     "moov/trak[18446744073709551616]": "part 1 of the path has no number in brackets after its code",
 }
 HEADER = "version: 0, flags: 0x000000, creation_time: 0, modification_time: 0, timescale: 48000, duration: 0, "
@@ -102,6 +120,11 @@ class Get(unittest.TestCase):
     def test_raw(self):
         for path, wanted in RAW.items():
             self.assertEqual(self.bytes_of("--raw", path), wanted, path)
+
+    def test_codes_with_signs(self):
+        """`a[*]`, `*[*]` and `[12]` are codes of four characters."""
+        for path, wanted in ODD.items():
+            self.assertEqual(self.bytes_of("--raw", path, data=SIGNS), wanted, path)
 
     def test_content(self):
         for path, wanted in CONTENTS.items():

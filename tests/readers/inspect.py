@@ -3,7 +3,6 @@ compare the program mp4inspect with. `tree` gives it as the JSON has it, and `li
 faults that `check` writes are in check.py."""
 
 import datetime
-import decimal
 import json
 import math
 import struct
@@ -396,8 +395,8 @@ ORDERS = {
     "vpcC": ["version", "flags", "profile", "level", "bitDepth", "colorSpace", "chromaSubsampling", "transferFunction",
              "videoFullRangeFlag", "colourPrimaries", "transferCharacteristics", "matrixCoefficients",
              "codecInitializationDataSize"],
-    "decConfigDescr": ["objectTypeIndication", "streamType", "upStream", "bufferSizeDB", "maxBitrate", "avgBitrate",
-                       "decSpecificInfo"],
+    "decConfigDescr": ["size_bytes", "objectTypeIndication", "streamType", "upStream", "reserved", "bufferSizeDB",
+                       "maxBitrate", "avgBitrate", "decSpecificInfo"],
     "trun": ["version", "flags", "sample_count", "data_offset", "first_sample_flags", "samples"],
 }
 # The names of the parts of a sample.
@@ -492,7 +491,7 @@ def value_text(name, value, within):
         rows = [" ".join(fixed_text(value[letter]) for letter in row) for row in ("abu", "cdv", "xyw")]
         return f"({'; '.join(rows)})"
     if name == "audioSampleRate":
-        return format(decimal.Decimal(repr(value)), "f").removesuffix(".0")
+        return repr(value).replace("e+", "e").removesuffix(".0")
     if isinstance(value, float):
         return fixed_text(value)
     if isinstance(value, str):

@@ -3,3 +3,4 @@ pub mod Fields
 pub mod Foreign
 pub mod Kind
 pub mod Terminator
+pub mod FaultText

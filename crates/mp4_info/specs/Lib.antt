@@ -24,3 +24,6 @@ pub mod Kinds
 pub mod Entries
 pub mod Facts
 pub mod Tags
+pub mod Members
+pub mod TrackJson
+pub mod FileJson

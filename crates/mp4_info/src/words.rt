@@ -1,5 +1,13 @@
 //! The words about a file and its tracks.
 
+ghost use Rattle.std.specs.Prelude.{◌≡◌, ◌++◌, OnOk, decimal, string_bytes};
+ghost use Rattle.std.specs.List.{list_any};
+ghost use Rattle.std.specs.Option.{option_map};
+ghost use Rattle.mp4_info.specs.Codecs.{colours_of};
+ghost use Rattle.mp4_info.specs.FileJson.{text_of};
+ghost use Rattle.mp4_info.specs.Members.{thousandths_text, three_digits};
+ghost use Rattle.mp4_info.specs.TrackJson.{are_chapters, has_chapters, have_chapters, is_in, range_of, refers_to};
+
 use crate::channels::push_channels;
 use crate::codec::colours_of;
 use crate::durations::Duration;
@@ -12,6 +20,7 @@ use crate::rates::FrameRate;
 use crate::sound::Sound;
 use crate::tags::Tag;
 use mp4_extra_media::colr::ColrBox;
+use mp4_extra_segments::tref::{TrackReference, TrefBox};
 use mp4_frame::FourCC;
 use mp4_show::{push_code, push_escaped, push_number};
 use mp4_shown::Result;
@@ -21,19 +30,26 @@ use std::alloc::Global;
 const CHAP: u32 = 0x6368_6170;
 
 /// Appends `number`.
-fn push_large(number: u128, out: &mut String) -> Result<()> {
-    write!(out, "{number}")
+pub(crate) fn push_large(number: u128, out: &mut String) -> Result<()>
+    ensures text { OnOk result (string_bytes out.new ≡ string_bytes out.old ++ decimal number) }
+{
+    let mut buffer = itoa::Buffer::new();
+    out.push_str(buffer.format(number))
 }
 
 /// Appends the last three digits of a number.
-fn push_three(number: u128, out: &mut String) -> Result<()> {
+fn push_three(number: u128, out: &mut String) -> Result<()>
+    ensures text { OnOk result (string_bytes out.new ≡ string_bytes out.old ++ three_digits number) }
+{
     push_large(number / 100 % 10, out)?;
     push_large(number / 10 % 10, out)?;
     push_large(number % 10, out)
 }
 
 /// Appends a number of thousandths with three decimals.
-pub(crate) fn push_thousandths(thousandths: u128, out: &mut String) -> Result<()> {
+pub(crate) fn push_thousandths(thousandths: u128, out: &mut String) -> Result<()>
+    ensures text { OnOk result (string_bytes out.new ≡ string_bytes out.old ++ thousandths_text thousandths) }
+{
     push_large(thousandths / 1000, out)?;
     out.push_str(".")?;
     push_three(thousandths, out)
@@ -63,15 +79,53 @@ pub(crate) fn push_thousands(number: u128, out: &mut String) -> Result<()> {
     push_large(number / 1000 + more, out)
 }
 
-/// Returns whether the track `facts` refers to the track with this track_ID for its chapters.
-fn has_chapters(facts: &TrackFacts, id: u32) -> bool {
-    let Some(references) = &facts.headers.references else {
-        return false;
-    };
-    for reference in references.references.as_slice() {
-        if u32::from(reference.reference_type) == CHAP
-            && reference.track_ids.as_slice().contains(&id)
-        {
+/// Returns whether one of `ids` is `id`.
+fn is_in(id: u32, ids: &[u32]) -> bool
+    ensures { result ≡ is_in id ids.now }
+{
+    for index in 0..ids.len() {
+        if ids[index] == id {
+            return true;
+        }
+    }
+    false
+}
+
+/// Returns whether `reference` is one to the track with this track_ID for its chapters.
+fn refers_to(id: u32, reference: &TrackReference) -> bool
+    ensures { result ≡ refers_to id reference.now }
+{
+    u32::from(reference.reference_type) == CHAP && is_in(id, reference.track_ids.as_slice())
+}
+
+/// Returns whether one of `references` is one to the track with this track_ID for its chapters.
+fn refer_to(id: u32, references: &[TrackReference]) -> bool
+    ensures { result ≡ list_any (refers_to id) references.now }
+{
+    for index in 0..references.len() {
+        if refers_to(id, &references[index]) {
+            return true;
+        }
+    }
+    false
+}
+
+/// Returns whether a track with these references refers to the track with this track_ID for its chapters.
+fn has_chapters(id: u32, references: &Option<TrefBox>) -> bool
+    ensures { result ≡ has_chapters id references.now }
+{
+    match references {
+        Some(references) => refer_to(id, references.references.as_slice()),
+        None => false,
+    }
+}
+
+/// Returns whether the track with this track_ID has the chapters of one of `tracks`.
+fn have_chapters(id: u32, tracks: &[TrackFacts]) -> bool
+    ensures { result ≡ have_chapters id tracks.now }
+{
+    for index in 0..tracks.len() {
+        if has_chapters(id, &tracks[index].headers.references) {
             return true;
         }
     }
@@ -79,16 +133,13 @@ fn has_chapters(facts: &TrackFacts, id: u32) -> bool {
 }
 
 /// Returns whether the track `facts` has the chapters of another one of `tracks`.
-pub(crate) fn are_chapters(tracks: &[TrackFacts], facts: &TrackFacts) -> bool {
-    let Some(header) = &facts.headers.track else {
-        return false;
-    };
-    for track in tracks {
-        if has_chapters(track, header.track_id) {
-            return true;
-        }
+pub(crate) fn are_chapters(tracks: &[TrackFacts], facts: &TrackFacts) -> bool
+    ensures { result ≡ are_chapters tracks.now facts.now.headers.track }
+{
+    match &facts.headers.track {
+        Some(header) => have_chapters(header.track_id, tracks),
+        None => false,
     }
-    false
 }
 
 /// Appends the number of a track, counted from 1, and its kind.
@@ -163,7 +214,9 @@ fn push_aspect(picture: &Picture, out: &mut String) -> Result<()> {
 
 /// Returns the name of the transfer characteristics of high dynamic range that `colr` states (ISO/IEC 23091-2, 8.2), if
 /// it states some.
-pub(crate) fn range_of(colr: &Option<ColrBox>) -> Option<&'static str> {
+pub(crate) fn range_of(colr: &Option<ColrBox>) -> Option<&'static str>
+    ensures { option_map (λ name. name.now) result ≡ range_of (colours_of colr.now) }
+{
     let Some(colours) = colours_of(colr) else {
         return None;
     };
@@ -293,7 +346,9 @@ pub(crate) fn push_samples(samples: &Option<SampleFacts>, out: &mut String) -> R
 }
 
 /// Returns the text of a tag, if its value is one: type 1, UTF-8.
-pub(crate) fn text_of(tag: &Tag) -> Option<&[u8]> {
+pub(crate) fn text_of(tag: &Tag) -> Option<&[u8]>
+    ensures { option_map (λ text. text.now) result ≡ text_of tag.now.value }
+{
     match &tag.value {
         Some(value) if value.type_set == 0 && value.data_type == 1 => Some(value.value.as_slice()),
         _ => None,

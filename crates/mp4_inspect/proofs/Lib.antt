@@ -5,6 +5,7 @@ pub mod EqualBytes
 pub mod Json
 pub mod PairSteps
 pub mod PatternSteps
+pub mod PatternTexts
 pub mod PieceSteps
 pub mod RowSteps
 pub mod TreeSteps

@@ -3,11 +3,13 @@ pub mod Checked
 pub mod Colors
 pub mod Differences
 pub mod Heading
+pub mod Info
 pub mod Json
 pub mod Listed
 pub mod Opened
 pub mod Outcome
 pub mod Pairs
+pub mod PatternText
 pub mod Patterns
 pub mod RowChanges
 pub mod Rows

@@ -18,7 +18,7 @@ use json::{Error, Scratch, Value};
 use mp4_command::escaped;
 use mp4_content::{Content, Shown, content_of, or_memory, put_content};
 use mp4_io::{Failure, Output, or_read, write_all};
-use mp4_show::{Look, TextSink, json_text};
+use mp4_show::{Look, json_text};
 use mp4_shown_json::JsonSink;
 use mp4_walk::{BoxWalk, Source, TreeBox};
 use std::alloc::Global;
@@ -234,8 +234,7 @@ fn write_text<B: Shown, S: Source, W: Write>(
 {
     let (mut walk, boxes, tracks) = list_file(alloc, source)?;
     let shown = or_memory(trees_at(alloc, &boxes, pattern))?;
-    let sink = TextSink::new(alloc, look);
-    let faulty = write_tree::<B, S, W>(alloc, &mut walk, &shown, &tracks, sink, output)?;
+    let faulty = write_tree::<B, S, W>(alloc, &mut walk, &shown, &tracks, look, output)?;
     Ok(got_of(!shown.is_empty(), faulty))
 }
 

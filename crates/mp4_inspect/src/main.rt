@@ -2,8 +2,9 @@
 //! faults, their samples, the boxes at a path, or in what two files differ.
 #![tactic(auto)]
 
-ghost use Rattle.std.specs.Prelude.{◌≡◌};
+ghost use Rattle.std.specs.Prelude.{◌≡◌, ◌≢◌, IfOk, IfErr, string_bytes};
 ghost use Rattle.mp4_inspect.specs.Colors.{has_color};
+ghost use Rattle.mp4_inspect.specs.PatternText.{IsPattern, IsPatternFault};
 
 mod bytes_differ;
 mod change_text;
@@ -417,7 +418,10 @@ fn is_fast_start(words: &[String]) -> bool {
 }
 
 /// Returns the boxes that `place` asks for. The error has the fault of its path.
-fn get_of(alloc: Global, place: &Place) -> Result<Get, PathError> {
+fn get_of(alloc: Global, place: &Place) -> Result<Get, PathError>
+    ensures pattern { IfOk result (λ get. IsPattern (string_bytes place.now.path) get.pattern) }
+    ensures fault { IfErr result (λ e. e ≢ PathError.Memory → IsPatternFault (string_bytes place.now.path) e) }
+{
     Ok(Get {
         pattern: Pattern::parse(alloc, place.path.as_str())?,
         path: escaped(alloc, place.path.as_str())?,

@@ -1,12 +1,15 @@
 //! Patterns of paths to boxes, such as `moov/trak[*]/tkhd` and `**/pssh`.
 
-ghost use Rattle.std.specs.Prelude.{◌≡◌, IfOk};
+ghost use Rattle.std.specs.Prelude.{◌≡◌, ◌≢◌, ◌==◌, ◌&&◌, ◌++◌, ◌∷◌, [], IfOk, OnOk, IfErr};
+ghost use Rattle.std.specs.Result.{MatchResult};
+ghost use Rattle.mp4_inspect.specs.PatternText.{IsStep, IsStepFault, IsPattern, IsPatternFault};
+ghost use Rattle.mp4_inspect.specs.PatternText.{is_anywhere, is_each, steps_text};
 ghost use Rattle.mp4_inspect.specs.Patterns.{accepts, accepts_all, fits, parts_before};
 ghost use Rattle.mp4_walk.specs.Paths.{is_code};
 
 use mp4_check::Part;
 use mp4_stream::FourCC;
-use mp4_walk::{BoxPath, PathError, PathPart};
+use mp4_walk::{PathError, PathPart, path_code, path_index};
 use std::alloc::Global;
 
 /// A step of a pattern: the boxes that it accepts, within their parent.
@@ -84,64 +87,74 @@ pub fn fits(pattern: &Pattern, path: &[Part]) -> bool
     accepts_all(&pattern.steps, &path[before..])
 }
 
-/// Returns the fault of a path of one part as that of part `number`.
-fn numbered(fault: PathError, number: u64) -> PathError {
-    match fault {
-        PathError::Code(_) => PathError::Code(number),
-        PathError::Index(_) => PathError::Index(number),
-        PathError::Memory => PathError::Memory,
-    }
-}
-
-/// Parses `text` as a path of one part. `number` is its index in the whole path.
-fn part_of(alloc: Global, text: &str, number: u64) -> Result<PathPart, PathError> {
-    match BoxPath::parse(alloc, text) {
-        Ok(path) => path.parts.first().copied().ok_or(PathError::Code(number)),
-        Err(fault) => Err(numbered(fault, number)),
-    }
+/// Returns whether `rest` after a code means every box with this code: it is `[*]`, or empty if `each`.
+fn is_each(rest: &str, each: bool) -> bool
+    ensures { result ≡ is_each each rest.now }
+{
+    rest == "[*]" || each && rest.is_empty()
 }
 
 /// Parses `text` as the step `number` of a pattern. A code without an index means every box with this code if `each`,
 /// and the first otherwise.
-fn step_of(alloc: Global, text: &str, number: u64, each: bool) -> Result<Step, PathError> {
+fn step_of(text: &str, number: u64, each: bool) -> Result<Step, PathError>
+    ensures { MatchResult result (IsStep each text.now) (IsStepFault text.now number) }
+{
     if text == "*" {
         return Ok(Step::Any);
     }
-    let code = text.strip_suffix("[*]").unwrap_or(text);
-    let is_bare = code.chars().count() == 4;
-    if code.len() != text.len() && !is_bare {
+    let Some((code, rest)) = path_code(text) else {
+        return Err(PathError::Code(number));
+    };
+    if is_each(rest, each) {
+        return Ok(Step::Each(code));
+    }
+    let Some(index) = path_index(rest) else {
         return Err(PathError::Index(number));
-    }
-    let part = part_of(alloc, code, number)?;
-    if is_bare && (each || code.len() != text.len()) {
-        Ok(Step::Each(part.code))
-    } else {
-        Ok(Step::One(part))
-    }
+    };
+    Ok(Step::One(PathPart { code, index }))
 }
 
 /// Appends a step to `steps`.
-fn push_step(step: Step, steps: &mut Vec<Step>) -> mp4_show::Result<()> {
+fn push_step(step: Step, steps: &mut Vec<Step>) -> mp4_show::Result<()>
+    ensures { OnOk result (steps.new.items ≡ steps.old.items ++ step ∷ []) }
+{
     steps.push(step)?;
     Ok(())
+}
+
+/// Returns whether any boxes may be around those of the steps of the pattern `text`, and the text of the steps.
+fn steps_in(text: &str) -> (bool, &str)
+    ensures anywhere { result.0 ≡ is_anywhere text.now }
+    ensures steps { result.1.now ≡ steps_text text.now }
+{
+    match text.strip_prefix("**/") {
+        Some(steps) => (true, steps),
+        None => (false, text),
+    }
+}
+
+/// Returns whether a code without an index in step `number` means every box with this code: it does right after `**/`.
+fn means_each(anywhere: bool, number: u64) -> bool
+    ensures { result ≡ (anywhere && (number == 0)) }
+{
+    anywhere && number == 0
 }
 
 impl Pattern {
     /// Parses `text` as a pattern, such as `moov/trak[*]/tkhd` or `**/pssh`. It is a path as `BoxPath` has it, with
     /// these additions: `*` is any box, `[*]` after a code is every box with this code, and `**/` at the beginning
     /// allows any boxes around the rest. Right after `**/` a code without an index is every box with this code.
-    pub(crate) fn parse(alloc: Global, text: &str) -> Result<Pattern, PathError> {
-        let inner = text.strip_prefix("**/");
-        let anywhere = inner.is_some();
-        let texts = inner
-            .unwrap_or(text)
-            .split('/')
-            .collect::<Vec<&str>>(alloc)?;
+    pub(crate) fn parse(alloc: Global, text: &str) -> Result<Pattern, PathError>
+        ensures ok { IfOk result (λ pattern. IsPattern text.now pattern) }
+        ensures fault { IfErr result (λ e. e ≢ PathError.Memory → IsPatternFault text.now e) }
+    {
+        let (anywhere, inner) = steps_in(text);
+        let texts = inner.split('/').collect::<Vec<&str>>(alloc)?;
         let mut steps = Vec::new(alloc);
         for piece in &texts {
             let number = steps.len() as u64;
-            let each = anywhere && number == 0;
-            push_step(step_of(alloc, piece, number, each)?, &mut steps)?;
+            let each = means_each(anywhere, number);
+            push_step(step_of(piece, number, each)?, &mut steps)?;
         }
         Ok(Pattern { anywhere, steps })
     }

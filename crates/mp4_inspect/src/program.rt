@@ -5,6 +5,7 @@ ghost use Rattle.std.specs.Io.KnownBytes.{Appends};
 ghost use Rattle.mp4_check.specs.SampleFaults.{WritesAll};
 ghost use Rattle.mp4_inspect.specs.Checked.{ChecksFile, form_of, is_bad};
 ghost use Rattle.mp4_inspect.specs.Heading.{heading_of};
+ghost use Rattle.mp4_inspect.specs.Info.{WritesInfo, WritesInfoJson, WritesObject};
 ghost use Rattle.mp4_inspect.specs.Json.{comma, WritesJson};
 ghost use Rattle.mp4_inspect.specs.Listed.{SamplesFile};
 ghost use Rattle.mp4_inspect.specs.Written.{WritesFile, BeginsFile};
@@ -20,11 +21,11 @@ use mp4_check::{Form, Told, write_faults, write_sample_faults};
 use mp4_content::Shown;
 use mp4_extra::SidxBox;
 use mp4_frame::ReadBox;
-use mp4_info::{facts_of, info_json, info_text, is_known};
+use mp4_info::{FileFacts, InfoBoxes, ReadsInfo, facts_of, info_json, info_text, is_known};
 use mp4_inspect_samples::{Choice, TrackFault, write_samples};
 use mp4_io::{Failure, Output, or_read, write_all};
 use mp4_movie::{Movie, TrackInfo};
-use mp4_show::{Look, TextSink};
+use mp4_show::Look;
 use mp4_walk::{BoxWalk, Source, TreeBox};
 use std::alloc::Global;
 use std::io::Write;
@@ -103,8 +104,7 @@ fn show_boxes<B: Shown, S: Source, W: Write>(
     ensures failed { output.new.failed ≡ (output.old.failed || is_write result) }
 {
     write_all(output, heading.as_bytes())?;
-    let sink = TextSink::new(alloc, look);
-    write_tree::<B, S, W>(alloc, tree, boxes, tracks, sink, output)
+    write_tree::<B, S, W>(alloc, tree, boxes, tracks, look, output)
 }
 
 /// Writes the heading and the tree of a source as text, after reading the headers of all boxes. Returns whether a box
@@ -260,11 +260,32 @@ fn show_info<S: Source, W: Write>(
     name: &str,
     source: S,
     output: &mut Output<W>,
-) -> Result<bool, Failure> {
+) -> Result<bool, Failure>
+    ensures info { IfSome (S.all source)
+        (λ bytes. IfOk result (WritesInfo ⟦<InfoBoxes as ReadsInfo>⟧.readings bytes
+        (W.contents output.old.inner) (W.contents output.new.inner))) }
+{
     let facts = facts_of(alloc, source)?;
     let text = info_text(alloc, name, &facts)?;
     write_all(output, text.as_str().as_bytes())?;
     Ok(!is_known(&facts))
+}
+
+/// Writes the JSON object of `facts`, after a comma if it follows another.
+fn write_info_json<W: Write>(
+    alloc: Global,
+    name: &str,
+    facts: &FileFacts,
+    follows: bool,
+    output: &mut Output<W>,
+) -> Result<(), Failure>
+    ensures json { OnOk result
+        (WritesObject name.now facts.now follows (W.contents output.old.inner) (W.contents output.new.inner)) }
+{
+    let text = info_json(alloc, name, facts)?;
+    write_comma(follows, output)?;
+    write_all(output, text.as_slice())?;
+    Ok(())
 }
 
 /// Writes the JSON object about a source, after a comma if it follows another. Returns whether a main value is not
@@ -275,11 +296,13 @@ fn show_info_json<S: Source, W: Write>(
     source: S,
     follows: bool,
     output: &mut Output<W>,
-) -> Result<bool, Failure> {
+) -> Result<bool, Failure>
+    ensures info { IfSome (S.all source)
+        (λ bytes. IfOk result (WritesInfoJson ⟦<InfoBoxes as ReadsInfo>⟧.readings bytes name.now follows
+        (W.contents output.old.inner) (W.contents output.new.inner))) }
+{
     let facts = facts_of(alloc, source)?;
-    let text = info_json(alloc, name, &facts)?;
-    write_comma(follows, output)?;
-    write_all(output, text.as_slice())?;
+    write_info_json(alloc, name, &facts, follows, output)?;
     Ok(!is_known(&facts))
 }
 

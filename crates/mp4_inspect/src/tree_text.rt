@@ -159,15 +159,15 @@ fn put_box<B: BoxFields + Drop>(
     found: &TreeBox,
     content: &Content<B>,
     tracks: &[TrackInfo],
+    look: Look,
     text: &mut String,
-    sink: &mut TextSink,
 ) -> Result<()>
     ensures { OnOk result (IsText found.now (string_bytes text.new)) }
 {
-    name_line(alloc, sink.look(), found, text)?;
+    name_line(alloc, look, found, text)?;
     push_place(found, text)?;
-    sink.begin(found.depth, columns(text.as_str()));
-    put_rest(alloc, found, content, tracks, sink)?;
+    let mut sink = TextSink::new(alloc, look, found.depth, columns(text.as_str()));
+    put_rest(alloc, found, content, tracks, &mut sink)?;
     text.push_str(sink.text())?;
     text.push('\n')?;
     Ok(())
@@ -179,8 +179,8 @@ fn make_box<B: Shown, S: Source>(
     tree: &mut BoxWalk<S>,
     found: &TreeBox,
     tracks: &[TrackInfo],
+    look: Look,
     text: &mut String,
-    sink: &mut TextSink,
 ) -> std::result::Result<bool, Failure>
     ensures text { IfSome tree.old.bytes
         (λ bytes. IfOk result
@@ -189,7 +189,7 @@ fn make_box<B: Shown, S: Source>(
     ensures not_write { is_write result ≡ false }
 {
     let content = content_of::<B, S>(alloc, tree, found)?;
-    or_memory(put_box(alloc, found, &content, tracks, text, sink))?;
+    or_memory(put_box(alloc, found, &content, tracks, look, text))?;
     Ok(content.is_faulty())
 }
 
@@ -200,8 +200,8 @@ fn write_box<B: Shown, S: Source, W: Write>(
     tree: &mut BoxWalk<S>,
     found: &TreeBox,
     tracks: &[TrackInfo],
+    look: Look,
     text: &mut String,
-    sink: &mut TextSink,
     output: &mut Output<W>,
 ) -> std::result::Result<bool, Failure>
     ensures text { IfSome tree.old.bytes
@@ -216,7 +216,7 @@ fn write_box<B: Shown, S: Source, W: Write>(
     ensures kept { tree.new ≡ tree.old }
     ensures failed { output.new.failed ≡ (output.old.failed || is_write result) }
 {
-    let faulty = make_box::<B, S>(alloc, tree, found, tracks, text, sink)?;
+    let faulty = make_box::<B, S>(alloc, tree, found, tracks, look, text)?;
     write_all(output, text.as_bytes())?;
     Ok(faulty)
 }
@@ -228,7 +228,7 @@ pub fn write_tree<B: Shown, S: Source, W: Write>(
     tree: &mut BoxWalk<S>,
     boxes: &[TreeBox],
     tracks: &[TrackInfo],
-    mut sink: TextSink,
+    look: Look,
     output: &mut Output<W>,
 ) -> std::result::Result<bool, Failure>
     ensures texts { IfSome tree.old.bytes
@@ -244,7 +244,7 @@ pub fn write_tree<B: Shown, S: Source, W: Write>(
     let mut text = String::new(alloc);
     let mut faulty = false;
     for found in boxes {
-        let here = write_box::<B, S, W>(alloc, tree, found, tracks, &mut text, &mut sink, output)?;
+        let here = write_box::<B, S, W>(alloc, tree, found, tracks, look, &mut text, output)?;
         faulty = either(faulty, here);
     }
     Ok(faulty)

@@ -16,3 +16,6 @@ pub mod FrontRows
 pub mod SoundFront
 pub mod Texts
 pub mod Lines
+pub mod Dates
+pub mod Values
+pub mod TextTrace

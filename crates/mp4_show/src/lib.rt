@@ -3,6 +3,7 @@
 
 mod box_fields;
 mod code;
+mod dates;
 mod either;
 mod escape;
 mod escaped_json;

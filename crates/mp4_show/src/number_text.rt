@@ -1,17 +1,14 @@
-//! Numbers, dates and bytes as text.
+//! Numbers, bytes and texts as text.
 
-ghost use Rattle.std.specs.Prelude.{◌≡◌, ◌++◌, OnOk, decimal, string_bytes, take};
+ghost use Rattle.std.specs.Prelude.{◌≡◌, ◌++◌, IfOk, OnOk, decimal, string_bytes, take};
 ghost use Rattle.std.specs.Fmt.{sign_text, signed_decimal};
-ghost use Rattle.mp4_show.specs.Texts.{fixed_shown, signed_fixed_shown, front_shown, bytes_shown};
+ghost use Rattle.mp4_show.specs.Texts.{fixed_shown, signed_fixed_shown, front_shown, bytes_shown, float_shown};
+ghost use Rattle.mp4_show.specs.Texts.{hex_shown, quoted, quoted_char, text_shown};
 
 use crate::escape::{Form, push_digits, push_shown};
-use jiff::Timestamp;
 use mp4_shown::Result;
 use mp4_shown_json::{power, push_fraction};
 use std::alloc::Global;
-
-/// The seconds from the start of 1904 to the start of 1970.
-const TO_1970: i64 = 2_082_844_800;
 
 /// So many bytes of a value are shown.
 const MOST_BYTES: usize = 24;
@@ -45,6 +42,7 @@ fn push_sign(negative: bool, out: &mut String) -> Result<()>
 }
 
 /// Appends a fixed-point number that may be negative, in the form of `push_fixed`.
+#[tactic(auto, unfolding(crate::specs::Texts::signed_fixed_shown))]
 pub(crate) fn push_signed_fixed(number: i64, bits: u32, out: &mut String) -> Result<()>
     ensures text { OnOk result (string_bytes out.new ≡ string_bytes out.old ++ signed_fixed_shown number bits) }
 {
@@ -68,38 +66,32 @@ pub(crate) fn push_fixed(number: u64, bits: u32, out: &mut String) -> Result<()>
     push_fraction(rest, bits, out)
 }
 
-/// Appends a number with 64 bits of IEEE 754 as a decimal that reads back as the same number.
-pub(crate) fn push_float(alloc: Global, number: f64, out: &mut String) -> Result<()> {
-    let text = format!(in alloc; "{number}")?;
-    out.push_str(text.as_str())
-}
-
-/// Appends a number in hexadecimal digits, at least so many.
-pub(crate) fn push_hex(alloc: Global, number: u64, digits: usize, out: &mut String) -> Result<()> {
-    let text = if digits > 6 {
-        format!(in alloc; "0x{number:08x}")?
-    } else {
-        format!(in alloc; "0x{number:06x}")?
-    };
-    out.push_str(text.as_str())
-}
-
-/// The instant that is so many seconds after the start of 1904.
-fn instant(seconds: u64) -> Option<Timestamp> {
-    let seconds = i64::try_from(seconds).ok()?;
-    Timestamp::from_second(seconds.checked_sub(TO_1970)?).ok()
-}
-
-/// Appends a date, as ISO 8601 has it, and the number of seconds since 1904; that number alone after the year 9999, and
-/// for 0, which stands for no date.
-pub(crate) fn push_date(alloc: Global, seconds: u64, out: &mut String) -> Result<()> {
-    if seconds != 0
-        && let Some(instant) = instant(seconds)
-    {
-        let text = format!(in alloc; "{instant} ({seconds})")?;
-        return out.push_str(text.as_str());
+/// Returns `decimal` without the zero after the point of a whole number.
+fn float_text(decimal: &str) -> &str
+    ensures { result.now ≡ float_shown decimal.now }
+{
+    match decimal.strip_suffix(".0") {
+        Some(whole) => whole,
+        None => decimal,
     }
-    push_number(seconds, out)
+}
+
+/// Appends the decimal of a number with 64 bits of IEEE 754, without the zero after the point of a whole number.
+pub(crate) fn push_float(decimal: &str, out: &mut String) -> Result<()>
+    ensures text { OnOk result (string_bytes out.new ≡ string_bytes out.old ++ float_shown decimal.now) }
+{
+    out.push_str(float_text(decimal))
+}
+
+/// Returns a number in hexadecimal digits, at least 6, or 8 if `digits` is more than 6.
+pub(crate) fn hex_text(alloc: Global, number: u64, digits: usize) -> Result<String>
+    ensures text { IfOk result (λ text. string_bytes text ≡ hex_shown number digits) }
+{
+    if digits > 6 {
+        format!(in alloc; "0x{number:08x}")
+    } else {
+        format!(in alloc; "0x{number:06x}")
+    }
 }
 
 /// Returns the bytes that are shown of `bytes`.
@@ -140,17 +132,20 @@ pub(crate) fn push_bytes(bytes: &[u8], out: &mut String) -> Result<()>
 
 /// Appends `c` as a character of a text between quotes: a quote and a backslash after a backslash, and others as
 /// `push_escaped` does.
-fn push_quoted(c: char, out: &mut String) -> Result<()> {
+fn push_quoted(c: char, out: &mut String) -> Result<()>
+    ensures text { OnOk result (string_bytes out.new ≡ string_bytes out.old ++ quoted_char c) }
+{
     match c {
-        '"' => out.push_str("\\\"")?,
-        '\\' => out.push_str("\\\\")?,
-        _ => push_shown(Form::Text, c, out)?,
+        '"' => out.push_str("\\\""),
+        '\\' => out.push_str("\\\\"),
+        _ => push_shown(Form::Text, c, out),
     }
-    Ok(())
 }
 
 /// Appends `text` as the characters of a text between quotes.
-fn push_all_quoted(text: &str, out: &mut String) -> Result<()> {
+fn push_all_quoted(text: &str, out: &mut String) -> Result<()>
+    ensures text { OnOk result (string_bytes out.new ≡ string_bytes out.old ++ quoted text.now) }
+{
     for c in text.chars() {
         push_quoted(c, out)?;
     }
@@ -158,13 +153,11 @@ fn push_all_quoted(text: &str, out: &mut String) -> Result<()> {
 }
 
 /// Appends a text between quotes, with U+FFFD for what is not UTF-8 in it.
-pub(crate) fn push_text(text: &[u8], out: &mut String) -> Result<()> {
+pub(crate) fn push_text(alloc: Global, text: &[u8], out: &mut String) -> Result<()>
+    ensures text { OnOk result (string_bytes out.new ≡ string_bytes out.old ++ text_shown text.now) }
+{
+    let text = String::from_utf8_lossy(alloc, text)?;
     out.push('"')?;
-    for chunk in text.utf8_chunks() {
-        push_all_quoted(chunk.valid(), out)?;
-        if !chunk.invalid().is_empty() {
-            out.push('\u{FFFD}')?;
-        }
-    }
+    push_all_quoted(text.as_str(), out)?;
     out.push('"')
 }

@@ -1,28 +1,20 @@
 //! The text of a box: its line, and a line for each entry of its lists.
 
-ghost use Rattle.std.specs.Prelude.{◌≡◌, ◌∷◌, [], ◌++◌, ◌*◌, false, length, min, replicate, OnOk, string_bytes};
+ghost use Rattle.std.specs.Prelude.{◌≡◌, ◌++◌, OnOk, codes, false, length, replicate, string_bytes};
 ghost use Rattle.std.specs.Str.{chars};
+ghost use Rattle.mp4_show.specs.Lines.{TextState, begun, further, in_color, new_line, separated, state_of};
+ghost use Rattle.mp4_show.specs.Lines.{with_colored, with_piece, with_words, wrote};
+ghost use Rattle.mp4_show.specs.TextTrace.{after_list, counted, entry_begun, last_list, list_left, numbered};
+ghost use Rattle.mp4_show.specs.TextTrace.{rest_told, then_text, with_entry, with_more};
 ghost use Rattle.mp4_show.specs.Texts.{colored};
-ghost use Rattle.mp4_show.specs.Lines.{fit, new_line, between, before_words};
+ghost use Rattle.mp4_show.specs.Values.{is_identity, is_row, is_usual};
+ghost use Rattle.mp4_shown.specs.Event.{shown_of};
 
 use crate::look::Look;
 use crate::number_text::push_number;
 use crate::value_text::push_value;
 use mp4_shown::{FieldSink, Matrix, Result, Value, View};
 use std::alloc::Global;
-
-/// The transformation that changes nothing.
-const IDENTITY: Matrix = Matrix {
-    a: 0x1_0000,
-    b: 0,
-    u: 0,
-    c: 0,
-    d: 0x1_0000,
-    v: 0,
-    x: 0,
-    y: 0,
-    w: 0x4000_0000,
-};
 
 /// What comes before the next piece of a line.
 #[derive(Clone, Copy, Debug, PartialEq, Eq)]
@@ -37,7 +29,7 @@ enum Before {
 
 /// A list whose entries are handed over.
 #[derive(Clone, Copy, Debug, PartialEq, Eq)]
-struct List {
+struct OpenList {
     /// How many entries it has.
     total: usize,
     /// How many of them are shown so far.
@@ -55,7 +47,7 @@ pub struct TextSink {
     column: usize,
     before: Before,
     /// The lists that are begun and not ended, each in an entry of the one before it.
-    lists: Vec<List>,
+    lists: Vec<OpenList>,
 }
 
 /// Appends a text in a colour, if colours are wanted. The colour is a number of ECMA-48, "select graphic rendition".
@@ -91,65 +83,32 @@ fn push_spaces(count: usize, out: &mut String) -> Result<()>
 }
 
 impl TextSink {
-    /// Returns a sink of no text.
-    pub fn new(alloc: Global, look: Look) -> TextSink
-        ensures text { string_bytes result.text ≡ [] }
-        ensures look { result.look ≡ look }
+    /// Creates a sink of no text, for the line of a box at this depth, of which so many columns are taken.
+    pub fn new(alloc: Global, look: Look, depth: u64, column: usize) -> TextSink
+        ensures { state_of result ≡ begun look depth column }
     {
         TextSink {
             alloc,
             text: String::new(alloc),
             piece: String::new(alloc),
             look,
-            indent: 0,
-            column: 0,
+            indent: 2 * depth.min(64) as usize,
+            column,
             before: Before::Space,
             lists: Vec::new(alloc),
         }
     }
 
-    /// Forgets all text. What follows is put into the line of a box at this depth, of which so many columns are taken.
-    pub fn begin(&mut self, depth: u64, column: usize)
-        ensures text { string_bytes self.new.text ≡ [] }
-        ensures look { self.new.look ≡ self.old.look }
-        ensures column { self.new.column ≡ column }
-        ensures indent { self.new.indent ≡ 2 * min depth 64 }
-        ensures lists { self.new.lists.items ≡ [] }
-    {
-        self.text.clear();
-        self.indent = 2 * depth.min(64) as usize;
-        self.column = column;
-        self.before = Before::Space;
-        self.lists.clear();
-    }
-
-    /// Ends the last line.
-    pub fn end(&mut self) -> Result<()>
-        ensures text { OnOk result (string_bytes self.new.text ≡ string_bytes self.old.text ++ (10 ∷ [])) }
-        ensures look { self.new.look ≡ self.old.look }
-    {
-        self.text.push('\n')
-    }
-
     /// Returns the text.
     pub fn text(&self) -> &str
-        ensures { result.now ≡ string_bytes self.now.text }
+        ensures { result.now ≡ (state_of self.now).text }
     {
         self.text.as_str()
     }
 
-    /// Returns how the text looks.
-    pub fn look(&self) -> Look
-        ensures { result ≡ self.now.look }
-    {
-        self.look
-    }
-
     /// Ends the line, and begins one that is so much further in than the box's.
     fn next_line(&mut self, further: usize) -> Result<()>
-        ensures text { OnOk result (string_bytes self.new.text
-            ≡ string_bytes self.old.text ++ new_line self.old.indent further) }
-        ensures look { self.new.look ≡ self.old.look }
+        ensures { OnOk result (state_of self.new ≡ new_line (state_of self.old) further) }
     {
         let count = self.indent.saturating_add(further);
         self.text.push('\n')?;
@@ -160,17 +119,14 @@ impl TextSink {
 
     /// Returns how much further in than the box's line those of the entries are, of the last list that is begun.
     fn further(&self) -> usize
-        ensures { result ≡ fit (length self.now.lists.items * 4) }
+        ensures { result ≡ further (state_of self.now) }
     {
         self.lists.len().saturating_mul(4)
     }
 
     /// Appends a text that no line break comes before.
     fn write(&mut self, text: &str) -> Result<()>
-        ensures text { OnOk result (string_bytes self.new.text ≡ string_bytes self.old.text ++ text.now) }
-        ensures look { self.new.look ≡ self.old.look }
-        ensures indent { self.new.indent ≡ self.old.indent }
-        ensures lists { self.new.lists ≡ self.old.lists }
+        ensures { OnOk result (state_of self.new ≡ wrote (state_of self.old) text.now) }
     {
         self.text.push_str(text)?;
         self.column = self.column.saturating_add(columns(text));
@@ -179,69 +135,82 @@ impl TextSink {
 
     /// Appends a text in a colour, if colours are wanted.
     fn colored(&mut self, text: &str, color: &str) -> Result<()>
-        ensures text { OnOk result (string_bytes self.new.text
-            ≡ string_bytes self.old.text ++ colored self.old.look.color color.now text.now) }
-        ensures look { self.new.look ≡ self.old.look }
+        ensures { OnOk result (state_of self.new ≡ in_color (state_of self.old) text.now color.now) }
     {
         self.column = self.column.saturating_add(columns(text));
         push_colored(self.look, text, color, &mut self.text)
     }
 
+    /// Appends a comma, ends the line, and begins one that is so much further in than the box's.
+    fn comma_line(&mut self, further: usize) -> Result<()>
+        ensures { OnOk result (state_of self.new ≡ new_line (wrote (state_of self.old) (codes ",")) further) }
+    {
+        self.write(",")?;
+        self.next_line(further)?;
+        Ok(())
+    }
+
     /// Appends what comes before a piece of `size` columns. Begins a line if this one has no room for the piece.
+    #[tactic(auto, unfolding(crate::specs::Lines::separated))]
     fn separate(&mut self, size: usize) -> Result<()>
-        ensures text { OnOk result (string_bytes self.new.text
-            ≡ string_bytes self.old.text ++ between self.old.before self.old size) }
-        ensures look { self.new.look ≡ self.old.look }
+        ensures { OnOk result (state_of self.new ≡ separated (state_of self.old) size) }
     {
         let room = self.look.width.saturating_sub(self.column);
+        let further = self.further();
         match self.before {
-            Before::Line => self.next_line(self.further().saturating_add(2)),
+            Before::Line => self.next_line(further.saturating_add(2)),
             Before::Space if room > size => self.write(" "),
-            Before::Space => self.next_line(self.further().max(4)),
+            Before::Space => self.next_line(further.max(4)),
             Before::Comma if room > size.saturating_add(2) => self.write(", "),
-            Before::Comma => {
-                self.write(",")?;
-                self.next_line(self.further().max(4))
-            }
+            Before::Comma => self.comma_line(further.max(4)),
         }
     }
 
     /// Appends a piece after what is there, on a new line if this one has no room.
+    #[tactic(auto, unfolding(crate::specs::Lines::with_piece))]
     fn put(&mut self, text: &str) -> Result<()>
-        ensures text { OnOk result (string_bytes self.new.text
-            ≡ string_bytes self.old.text ++ (between self.old.before self.old (length (chars text.now)) ++ text.now)) }
-        ensures look { self.new.look ≡ self.old.look }
+        ensures { OnOk result (state_of self.new ≡ with_piece (state_of self.old) text.now) }
     {
         self.separate(columns(text))?;
+        self.write(text)?;
         self.before = Before::Comma;
-        self.write(text)
+        Ok(())
+    }
+
+    /// Begins a piece with a name.
+    fn name_piece(&mut self, name: &str) -> Result<()>
+        ensures piece { OnOk result (string_bytes self.new.piece ≡ name.now ++ codes ": ") }
+        ensures kept { state_of self.new ≡ state_of self.old }
+    {
+        self.piece.clear();
+        self.piece.push_str(name)?;
+        self.piece.push_str(": ")
     }
 
     /// Appends the piece that was made.
-    fn put_piece(&mut self) -> Result<()> {
+    fn put_piece(&mut self) -> Result<()>
+        ensures { OnOk result (state_of self.new ≡ with_piece (state_of self.old) (string_bytes self.old.piece)) }
+    {
         let alloc = self.alloc;
         let piece = std::mem::replace(&mut self.piece, String::new(alloc));
-        let done = self.put(piece.as_str());
+        self.put(piece.as_str())?;
         self.piece = piece;
-        done
+        Ok(())
     }
 
     /// Appends some words in a colour, after a space.
+    #[tactic(auto, unfolding(crate::specs::Lines::with_colored))]
     pub fn words_colored(&mut self, text: &str, color: &str) -> Result<()>
-        ensures text { OnOk result (string_bytes self.new.text
-            ≡ string_bytes self.old.text
-            ++ (before_words self.old [] ++ colored self.old.look.color color.now text.now)) }
-        ensures look { self.new.look ≡ self.old.look }
+        ensures { OnOk result (state_of self.new ≡ with_colored (state_of self.old) text.now color.now) }
     {
         self.words("")?;
-        self.colored(text, color)
+        self.colored(text, color)?;
+        Ok(())
     }
 
     /// Appends some words, after a space.
     pub fn words(&mut self, text: &str) -> Result<()>
-        ensures text { OnOk result (string_bytes self.new.text
-            ≡ string_bytes self.old.text ++ (before_words self.old text.now ++ text.now)) }
-        ensures look { self.new.look ≡ self.old.look }
+        ensures { OnOk result (state_of self.new ≡ with_words (state_of self.old) text.now) }
     {
         self.before = Before::Space;
         self.put(text)?;
@@ -250,59 +219,162 @@ impl TextSink {
     }
 
     /// Appends the piece that was made, as what begins a line.
-    fn write_piece(&mut self) -> Result<()> {
+    fn write_piece(&mut self) -> Result<()>
+        ensures { OnOk result (state_of self.new ≡ wrote (state_of self.old) (string_bytes self.old.piece)) }
+    {
         let alloc = self.alloc;
         let piece = std::mem::replace(&mut self.piece, String::new(alloc));
-        let done = self.write(piece.as_str());
+        self.write(piece.as_str())?;
         self.piece = piece;
-        done
+        Ok(())
     }
 
-    /// Counts an entry of the last list that is begun. Returns which one it is, from 1 on.
-    fn count_entry(&mut self) -> usize {
-        match self.lists.last_mut() {
-            Some(list) => {
-                list.shown = list.shown.saturating_add(1);
-                list.shown
-            }
-            None => 0,
+    /// Returns the last list that is begun, or one of no entries.
+    fn last_list(&self) -> OpenList
+        ensures { result ≡ last_list (state_of self.now).lists }
+    {
+        let none = OpenList { total: 0, shown: 0 };
+        self.lists.last().copied().unwrap_or(none)
+    }
+
+    /// Counts an entry of the last list that is begun.
+    fn count_entry(&mut self)
+        ensures { state_of self.new ≡ record (state_of self.old) { lists = counted (state_of self.old).lists } }
+    {
+        if self.lists.is_empty() {
+            return;
         }
+        let list = with_entry(self.last_list());
+        let last = self.lists.len() - 1;
+        self.lists[last] = list;
+    }
+
+    /// Begins a line with the number of the last entry that was counted.
+    fn number_line(&mut self) -> Result<()>
+        ensures { OnOk result (state_of self.new ≡ numbered (state_of self.old)) }
+    {
+        let list = self.last_list();
+        self.next_line(self.further())?;
+        self.piece.clear();
+        push_number(list.shown as u64, &mut self.piece)?;
+        self.piece.push(':')?;
+        self.write_piece()?;
+        self.before = Before::Space;
+        Ok(())
     }
 
     /// Begins the line of an entry.
-    fn entry_line(&mut self) -> Result<()> {
-        let entry = self.count_entry();
-        self.next_line(self.further())?;
-        self.piece.clear();
-        push_number(entry as u64, &mut self.piece)?;
-        self.piece.push(':')?;
-        self.before = Before::Space;
-        self.write_piece()
+    #[tactic(auto, unfolding(crate::specs::TextTrace::entry_begun))]
+    fn entry_line(&mut self) -> Result<()>
+        ensures { OnOk result (state_of self.new ≡ entry_begun (state_of self.old)) }
+    {
+        self.count_entry();
+        self.number_line()?;
+        Ok(())
     }
 
     /// Appends a line that says how many entries of the last list aren't shown, so many.
-    fn more_line(&mut self, more: usize) -> Result<()> {
+    #[tactic(auto, unfolding(crate::specs::TextTrace::with_more))]
+    fn more_line(&mut self, more: usize) -> Result<()>
+        ensures { OnOk result (state_of self.new ≡ with_more (state_of self.old) more) }
+    {
         self.next_line(self.further())?;
         self.piece.clear();
         self.piece.push_str(".. ")?;
         push_number(more as u64, &mut self.piece)?;
         self.piece.push_str(" more")?;
-        self.write_piece()
+        self.write_piece()?;
+        Ok(())
+    }
+
+    /// Appends a line that says how many entries of `list` aren't shown, if only some are.
+    fn tell_rest(&mut self, list: OpenList) -> Result<()>
+        ensures { OnOk result (state_of self.new ≡ rest_told (state_of self.old) list) }
+    {
+        if list.shown > 0 && list.shown < list.total {
+            self.more_line(list.total - list.shown)
+        } else {
+            Ok(())
+        }
+    }
+
+    /// Forgets the last list that is begun, which is `list`.
+    fn leave_list(&mut self, list: OpenList)
+        ensures { state_of self.new ≡ list_left (state_of self.old) list }
+    {
+        let _ = self.lists.pop();
+        self.before = after_list(list);
     }
 }
 
-/// Returns whether a value is left out of a text, since most boxes have it.
-fn is_usual(value: Value<'_>) -> bool {
-    matches!(value, Value::Matrix(matrix) if *matrix == IDENTITY)
+/// Returns `list` with one more entry that is shown.
+fn with_entry(list: OpenList) -> OpenList
+    ensures { result ≡ with_entry list }
+{
+    OpenList {
+        total: list.total,
+        shown: list.shown.saturating_add(1),
+    }
 }
 
-/// The sink promises nothing of its text.
+/// Returns what comes before the next piece after the end of `list`.
+fn after_list(list: OpenList) -> Before
+    ensures { result ≡ after_list list }
+{
+    if list.shown > 0 {
+        Before::Line
+    } else {
+        Before::Comma
+    }
+}
+
+/// Returns whether a row of a transformation is (`first` `second` `third`).
+#[tactic(auto, unfolding(crate::specs::Values::is_row))]
+fn is_row(row: (i32, i32, i32), first: i32, second: i32, third: i32) -> bool
+    ensures { result ≡ is_row row first second third }
+{
+    row.0 == first && row.1 == second && row.2 == third
+}
+
+/// Returns whether a transformation changes nothing.
+fn is_identity(m: Matrix) -> bool
+    ensures { result ≡ is_identity m }
+{
+    is_row((m.a, m.b, m.u), 0x1_0000, 0, 0)
+        && is_row((m.c, m.d, m.v), 0, 0x1_0000, 0)
+        && is_row((m.x, m.y, m.w), 0, 0, 0x4000_0000)
+}
+
+/// Returns whether a value is left out of a text, since most boxes have it.
+fn is_usual(value: Value<'_>) -> bool
+    ensures { result ≡ is_usual (shown_of value.entry) }
+{
+    match value {
+        Value::Matrix(matrix) => is_identity(*matrix),
+        Value::Number(_)
+        | Value::Signed(_)
+        | Value::Named(_, _)
+        | Value::Flags(_, _, _)
+        | Value::Date(_)
+        | Value::Fixed(_, _)
+        | Value::SignedFixed(_, _)
+        | Value::Float(_, _)
+        | Value::MediaTime(_)
+        | Value::Hex(_, _)
+        | Value::Code(_)
+        | Value::Codes(_)
+        | Value::Text(_)
+        | Value::Bytes(_)
+        | Value::Numbers(_) => false,
+    }
+}
+
 impl FieldSink for TextSink {
-    ghost Trace = { Unit {0} };
+    ghost Trace = { TextState };
 
-    ghost trace = { λ _. tt };
+    ghost trace = { state_of };
 
-    ghost after = { λ _ _. tt };
+    ghost after = { then_text };
 
     ghost wanted = { λ sink. record { rows = sink.look.rows; columns = false } };
 
@@ -317,20 +389,17 @@ impl FieldSink for TextSink {
         if is_usual(value) {
             return Ok(());
         }
-        self.piece.clear();
-        self.piece.push_str(name)?;
-        self.piece.push_str(": ")?;
+        self.name_piece(name)?;
         push_value(self.alloc, value, &mut self.piece)?;
-        self.put_piece()
+        self.put_piece()?;
+        Ok(())
     }
 
     fn begin_list(&mut self, name: &str, total: usize) -> Result<()> {
-        self.piece.clear();
-        self.piece.push_str(name)?;
-        self.piece.push_str(": ")?;
+        self.name_piece(name)?;
         push_number(total as u64, &mut self.piece)?;
         self.put_piece()?;
-        self.lists.push(List { total, shown: 0 })?;
+        self.lists.push(OpenList { total, shown: 0 })?;
         Ok(())
     }
 
@@ -338,7 +407,8 @@ impl FieldSink for TextSink {
         self.entry_line()?;
         self.piece.clear();
         push_value(self.alloc, value, &mut self.piece)?;
-        self.put_piece()
+        self.put_piece()?;
+        Ok(())
     }
 
     fn begin_entry(&mut self) -> Result<()> {
@@ -350,25 +420,18 @@ impl FieldSink for TextSink {
     }
 
     fn end_list(&mut self) -> Result<()> {
-        let Some(list) = self.lists.last().copied() else {
+        if self.lists.is_empty() {
             return Ok(());
-        };
-        if list.shown < list.total && list.shown > 0 {
-            self.more_line(list.total.saturating_sub(list.shown))?;
         }
-        let _ = self.lists.pop();
-        self.before = if list.shown > 0 {
-            Before::Line
-        } else {
-            Before::Comma
-        };
+        let list = self.last_list();
+        self.tell_rest(list)?;
+        self.leave_list(list);
         Ok(())
     }
 
     fn begin_group(&mut self, name: &str) -> Result<()> {
-        self.piece.clear();
-        self.piece.push_str(name)?;
-        self.piece.push_str(": {")?;
+        self.name_piece(name)?;
+        self.piece.push('{')?;
         self.put_piece()?;
         self.before = Before::Space;
         Ok(())

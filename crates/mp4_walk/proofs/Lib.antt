@@ -1,6 +1,6 @@
 pub mod Frames
 mod NamesFound
-mod PathTexts
+pub mod PathTexts
 pub mod Places
 pub mod Searches
 pub mod Steps

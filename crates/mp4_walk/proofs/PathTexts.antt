@@ -169,8 +169,7 @@ first_fault text items k number d parts e are within all counted fault =
     let before : AllZip IsPart (take k (texts_of text)) parts = subst (λ ts. AllZip IsPart (take k ts) parts) are all in
     (k, piece, here, subst (λ n. IsFault piece n e) same fault, (parts, before))
 
--- what the error of a path says
-pub says_fault : {A : Type 0} (r : Result A PathError) (text : List ℕ) (e : PathError) → IsErrAnd r (λ f. f ≡ e)
-    → IsFirstFault text e → IfErr r (λ f. f ≢ faults.Memory → IsFirstFault text f)
-says_fault (Ok x) text e is fault = tt
-says_fault (Err f) text e is fault = λ other. subst (IsFirstFault text) (sym is) fault
+-- what is known of an error is known of the error that a call passes on
+pub passed_on : {A E : Type 0} (r : Result A E) (P : E → Type 0) (e : E) → IsErrAnd r (λ f. f ≡ e) → P e → IfErr r P
+passed_on (Ok x) P e is fault = tt
+passed_on (Err f) P e is fault = subst P (sym is) fault

@@ -30,7 +30,7 @@ pub use fronts::{
 };
 pub use level::Level;
 pub use name::name_of;
-pub use path::{BoxPath, PathError, PathPart};
+pub use path::{BoxPath, PathError, PathPart, path_code, path_index};
 pub use peek::{NO_CONTENT, Peek, peek_at};
 pub use source::Source;
 pub use step::{Step, step_in};

@@ -66,8 +66,9 @@ fn between_brackets(text: &str) -> Option<&str>
     text.strip_prefix('[')?.strip_suffix(']')
 }
 
-/// Returns the number in brackets that `text` is, or 0 if `text` is empty. Returns `None` if it is neither.
-fn index_of(text: &str) -> Option<u64>
+/// Returns the index that `text`, which follows a code, gives: the number in brackets that it is, or 0 if it is empty.
+/// Returns `None` if it is neither.
+pub fn path_index(text: &str) -> Option<u64>
     ensures some { IfSome result (λ index. IsIndex text.now index) }
     ensures none { IfNone result (HasNoIndex text.now) }
 {
@@ -90,7 +91,7 @@ fn first_byte(text: &str) -> Option<(u8, &str)>
 
 /// Returns the code at the front of `text`, and the text after it. Returns `None` if there are fewer than four
 /// characters, or one of them is above U+00FF.
-fn code_of(text: &str) -> Option<(FourCC, &str)>
+pub fn path_code(text: &str) -> Option<(FourCC, &str)>
     ensures some { IfSome result (λ front. IsCode front.0.value × HasCode text.now front.0.value front.1.now) }
     ensures none { IfNone result (HasNoCode text.now) }
 {
@@ -106,10 +107,10 @@ fn code_of(text: &str) -> Option<(FourCC, &str)>
 fn part_of(text: &str, number: u64) -> Result<PathPart, PathError>
     ensures { MatchResult result (IsPart text.now) (IsFault text.now number) }
 {
-    let Some((code, rest)) = code_of(text) else {
+    let Some((code, rest)) = path_code(text) else {
         return Err(PathError::Code(number));
     };
-    let Some(index) = index_of(rest) else {
+    let Some(index) = path_index(rest) else {
         return Err(PathError::Index(number));
     };
     Ok(PathPart { code, index })

@@ -1,9 +1,10 @@
-use Rattle.std.proofs.Common.{◌≡◌, ℕ, ◌<◌, ◌≤◌, ◌+◌, Ok, length, lit<, map, take, subst, sym, ap, ◌∙◌, rules}
+use Rattle.std.proofs.Common.{◌≡◌, ◌≢◌, ℕ, ◌<◌, ◌≤◌, ◌+◌, Ok, length, lit<, map, take, subst, sym, ap, ◌∙◌, rules}
 use Rattle.std.proofs.lemmas.Iterator.Consumers.{map_from_collect}
 use Rattle.std.proofs.lemmas.Iterator.Splits.{YieldsList-from_str_split}
 use Rattle.std.specs.List.{AllZip}
-use Rattle.mp4_walk.specs.PathText.{IsPart, texts_of}
-use Rattle.mp4_walk.proofs.PathTexts.{parts_more, piece_at, all_parts, first_fault, says_fault}
+use Rattle.mp4_walk.specs.PathText.{IsPart, IsFirstFault, texts_of}
+use Rattle.mp4_walk.proofs.PathTexts.{parts_more, piece_at, all_parts, first_fault, passed_on}
+use Rattle.mp4_walk.specs.declared.path.PathError.TheVariants as faults
 use Rattle.mp4_walk.proofs.path.BoxPath.parse.Goals as goal
 
 pub returns-in_err-part_of-clause-fault : goal.returns-in_err-part_of-clause-fault
@@ -24,8 +25,8 @@ returns-in_err-part_of-clause-fault c =
     let fault =
     first_fault text items k _ _ parts c.in_err-part_of.field-0.0 are within c.loop-piece.invariant counted
     c.in_err-part_of.ensures in
-    says_fault c.from_residual-in_err-part_of.result text c.in_err-part_of.field-0.0
-    c.from_residual-in_err-part_of.ensures.1 fault
+    passed_on c.from_residual-in_err-part_of.result (λ e. e ≢ faults.Memory → IsFirstFault text e)
+    c.in_err-part_of.field-0.0 c.from_residual-in_err-part_of.ensures.1 (λ _. fault)
 
 pub loop-piece-preserved : goal.loop-piece-preserved
 loop-piece-preserved c =

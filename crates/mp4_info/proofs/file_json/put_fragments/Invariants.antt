@@ -1,0 +1,12 @@
+-- The tokens of the items starting at the index are still to be written.
+use Rattle.std.proofs.Common.{◌≡◌, ◌++◌, drop}
+use Rattle.std.specs.Prelude.{flat_map}
+use Rattle.mp4_info.specs.FileJson.{fragment_value}
+use Rattle.mp4_info.proofs.file_json.put_fragments.Given as goal
+
+abbrev pub invariant-loop-index : goal.invariant-loop-index
+invariant-loop-index l = record {
+  before : l.sink.out.before ≡ l.initial.sink.out.before;
+  tokens : l.sink.out.tokens ++ flat_map (fragment_value l.tracks) (drop l.index l.fragments)
+      ≡ l.initial.sink.out.tokens ++ flat_map (fragment_value l.tracks) l.fragments;
+}

@@ -1,0 +1,12 @@
+use Rattle.std.specs.Prelude.{codes}
+use Rattle.mp4_info.specs.TrackJson.{nclx_members}
+use Rattle.mp4_info.proofs.Sequences.{member_put}
+use Rattle.mp4_info.proofs.file_json.put_nclx_object.Goals as goal
+
+pub returns : goal.returns
+returns c =
+    member_put c.args.sink.now.out c.key.new.self c.begin_object.new.self c.put_nclx.new.sink.out c.end_object.new.self
+    (codes "colours") (nclx_members c.args.primaries c.args.transfer c.args.matrix c.args.full_range)
+    (c.in_ok-key.ensures.room.0, c.in_ok-key.ensures.ok)
+    (c.in_ok-begin_object.ensures.room.0, c.in_ok-begin_object.ensures.ok) c.in_ok-put_nclx.ensures
+    (c.in_ok-end_object.ensures.room.0, c.in_ok-end_object.ensures.ok)

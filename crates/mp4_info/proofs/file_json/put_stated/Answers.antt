@@ -1,0 +1,16 @@
+use Rattle.std.proofs.Common.{OnOk, subst}
+use Rattle.std.specs.Prelude.{codes}
+use Rattle.std.specs.declared.option.Option.{Option}
+use Rattle.mp4_info.specs.Members.{duration_value, member}
+use Rattle.mp4_info.specs.declared.durations.Duration.{Duration}
+use Rattle.mp4_shown_json.specs.Tokens.{Puts}
+use Rattle.mp4_info.proofs.file_json.put_stated.Goals as goal
+
+pub returns : goal.returns
+returns c =
+    let start = c.args.sink.now.out in
+    let end = c.put_duration_if.new.sink.out in
+    subst
+    (λ (d : Option Duration). OnOk c.put_duration_if.result
+    (Puts start end (member (codes "stated_duration") (duration_value d))))
+    c.stated_duration.ensures c.put_duration_if.ensures
