@@ -2,7 +2,7 @@
 
 ghost use Rattle.std.specs.Prelude.{◌≡◌};
 ghost use Rattle.std.specs.Option.{option_map};
-ghost use Rattle.mp4_walk.specs.Names.{name_in};
+ghost use Rattle.mp4_walk.specs.Names.{box_name};
 
 use mp4_frame::FourCC;
 
@@ -188,7 +188,7 @@ static NAMES: [([u8; 4], &str); 166] = [
 
 /// Returns the name of boxes with this `code` in a few plain words, or `None` for a code that is not in the table.
 pub fn name_of(code: FourCC) -> Option<&'static str>
-    ensures { option_map (λ name. name.now) result ≡ name_in NAMES code.value }
+    ensures { option_map (λ name. name.now) result ≡ box_name code.value }
 {
     let row = NAMES.iter().find(|row| row.0 == code.value)?;
     Some(row.1)
