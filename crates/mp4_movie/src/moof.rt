@@ -79,7 +79,7 @@ fn fragments_in<S: Source>(
         fragments.items)) }
     ensures kept { walk.new ≡ walk.old }
 {
-    let mut fragments = Vec::new(alloc);
+    let mut fragments = Vec::with_capacity(alloc, 1)?;
     let mut end = Some(moof);
     let mut rest = boxes;
     'trafs: while let Some(place) = first_in(rest, 1, codes::TRAF) {

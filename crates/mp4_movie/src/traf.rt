@@ -1,6 +1,6 @@
 //! The boxes of a `traf`.
 
-ghost use Rattle.std.specs.Prelude.{◌≡◌, [], ◌∷◌, ◌++◌, OnOk};
+ghost use Rattle.std.specs.Prelude.{IfOk, ◌≡◌, [], ◌∷◌, ◌++◌, OnOk};
 ghost use Rattle.mp4_frame.specs.FourCC.{four_cc_of};
 ghost use Rattle.mp4_frame.specs.declared.codes.TheConstants as names;
 ghost use Rattle.mp4_movie.specs.Levels.{all_in};
@@ -56,6 +56,13 @@ fn run_at<S: Source>(
     }
 }
 
+/// Returns a list without runs, with room for one, which is what most `traf`s have.
+fn room_for_one(alloc: Global) -> io::Result<Vec<TrunBox>>
+    ensures { IfOk result (λ runs. runs.items ≡ []) }
+{
+    Ok(Vec::with_capacity(alloc, 1)?)
+}
+
 /// Returns the runs of a `traf`. `boxes` begins with the boxes inside it.
 fn runs_in<S: Source>(
     alloc: Global,
@@ -66,7 +73,7 @@ fn runs_in<S: Source>(
         (λ file. runs_of file (all_in 2 (four_cc_of names.TRUN) boxes.now)) }
     ensures kept { walk.new ≡ walk.old }
 {
-    let mut runs = Vec::new(alloc);
+    let mut runs = room_for_one(alloc)?;
     let mut rest = boxes;
     while let Some(place) = first_in(rest, DEPTH, codes::TRUN) {
         let run = run_at(alloc, walk, &place.found)?;

@@ -21,7 +21,7 @@ loop-place-preserved g c =
 pub returns-in_err-run-clause-value : goal.returns-in_err-run-clause-value
 returns-in_err-run-clause-value g c =
     let f : Found = record { box = c.in-Some.place.found; after = c.in-Some.place.after.now } in
-    let p = err_from_is_err_and c.from_residual.result c.from_residual.ensures.1 in
+    let p = err_from_is_err_and c.from_residual-in_err-run.result c.from_residual-in_err-run.ensures.1 in
     rw (p.1, p.2)
     (both_known _ _ (ap (λ (w : Walk). w.bytes) c.loop-place.invariant.kept) c.loop-place.invariant.so_far
     c.in_err-run.ensures.value
