@@ -29,9 +29,9 @@ NEW = "padb"
 # The box whose lines are copied.
 LIKE = "mfro"
 # The largest number of lists of the crates, besides that of the codes, that a box may need an entry in.
-MOST_LISTS = 12
+MOST_LISTS = 15
 # The largest number of lines of code and definitions that a box of a few numbers may take.
-MOST = 70
+MOST = 80
 # The function of the slow reader that reads the fields.
 READER = '''def padb(c):
     c.full(1)
@@ -92,7 +92,7 @@ impl DeclaredBox for Padb {
 }
 
 /// The names of the fields.
-const NAMES: &<PadbShape as NamedShape>::Names = &names_of!(
+pub const NAMES: &<PadbShape as NamedShape>::Names = &names_of!(
     number!("version"),
     number!("flags", Flags(6)),
     number!("sample_count"),
