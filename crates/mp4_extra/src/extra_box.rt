@@ -3,17 +3,17 @@
 ghost use Rattle.std.specs.Prelude.{◌≡◌, ◌+◌, ◌-◌, ◌≤◌, IsTrue, OnOk, OnErr, max};
 ghost use Rattle.mp4_frame.specs.Members.{is_known, reading_known};
 ghost use Rattle.mp4_frame.specs.Reading.{Answers, map_reading};
-ghost use Rattle.mp4_extra.specs.Catalogue.{Declarations, inside, kinds, shown, whole};
-ghost use Rattle.mp4_extra.specs.CatalogueLaws.{by_code, members, named};
+ghost use Rattle.mp4_shown.specs.Catalogue.{Declarations, inside, kinds, shown, whole};
+ghost use Rattle.mp4_shown.specs.CatalogueLaws.{by_code, members, named};
 ghost use Rattle.mp4_extra.specs.ExtraBox.{declarations, extra_types, known_any, reading_any};
 ghost use Rattle.mp4_extra.specs.ExtraBoxLaws.{extra_laws};
 ghost use Rattle.mp4_extra.specs.declared.extra_box.ExtraBox.TheVariants as boxes;
 
-use crate::picture_box::{PictureBox, PictureDeclarations};
-use crate::sample_box::{SampleBox, SampleDeclarations};
-use crate::sound_box::{SoundBox, SoundDeclarations};
-use crate::track_box::{TrackBox, TrackDeclarations};
 use mp4_compose::CodedEnum;
+use mp4_extra_pictures::picture_box::{PictureBox, PictureDeclarations};
+use mp4_extra_samples::sample_box::{SampleBox, SampleDeclarations};
+use mp4_extra_sound::sound_box::{SoundBox, SoundDeclarations};
+use mp4_extra_tracks::track_box::{TrackBox, TrackDeclarations};
 use mp4_frame::{BoxEnum, BoxType, BoxVisitor, ByteCursor, Holds, Result, TryClone, clone_as};
 use mp4_shown::{FieldSink, HasFields, View};
 use std::alloc::Global;

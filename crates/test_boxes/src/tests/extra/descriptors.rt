@@ -73,12 +73,7 @@ fn esds(alloc: Global, version: u8, of_box: u32) -> Outcome {
 }
 
 /// Writes an elementary stream with these flags and these numbers of other streams.
-fn numbers(
-    alloc: Global,
-    flags: EsFlags,
-    depends_on: Option<u16>,
-    clock: Option<u16>,
-) -> Outcome {
+fn numbers(alloc: Global, flags: EsFlags, depends_on: Option<u16>, clock: Option<u16>) -> Outcome {
     let mut es = plain(alloc, flags);
     es.options.depends_on_es_id = depends_on;
     es.options.ocr_es_id = clock;
