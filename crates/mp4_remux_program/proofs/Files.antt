@@ -3,11 +3,13 @@ use Rattle.std.proofs.Common.{◌≡◌, ℕ, zero, suc, ◌+◌, ◌-◌, ◌<�
 use Rattle.std.proofs.Common.{refl, sym, ap, subst, append_assoc, ◌∙◌, arith}
 use Rattle.std.proofs.lemmas.Bool.{le-leb, lt-leb, lt-ltb, le-ltb}
 use Rattle.std.proofs.lemmas.List.{take-append-le, take-take, take_at, drop-take, drop-drop, drop_at, length-append}
-use Rattle.std.proofs.lemmas.List.{length-take-le, length-drop}
+use Rattle.std.proofs.lemmas.List.{append-nil, length-take-le, length-drop}
 use Rattle.std.proofs.Math.Seq.{drop-append-add}
 use Rattle.mp4_remux_program.specs.declared.movement.Move.{Move}
-use Rattle.mp4_remux_program.specs.Moved.{moved, moved_file, IsCut}
-use Rattle.mp4_remux_program.specs.Laws.{BytesAreKept, LengthIsKept, MovieIsMoved}
+use Rattle.mp4_remux.specs.Splices.{spliced}
+use Rattle.mp4_remux.specs.declared.edits.splice.Splice.{Splice}
+use Rattle.mp4_remux_program.specs.Moved.{AreMove, moved, moved_file, IsCut}
+use Rattle.mp4_remux_program.specs.Laws.{BytesAreKept, LengthIsKept, MoveIsSpliced, MovieIsMoved}
 
 -- the same bytes in the same beginning
 window : (xs ys : List ℕ) (o n : ℕ) → take (o + n) xs ≡ take (o + n) ys → take n (drop o xs) ≡ take n (drop o ys)
@@ -125,3 +127,13 @@ length_is_kept c B m shift = as_long c B m shift
 
 pub movie_is_moved : MovieIsMoved
 movie_is_moved c B m shift = movie_at c B m shift
+
+pub move_is_spliced : MoveIsSpliced
+move_is_spliced c B m ss is =
+    let none : c.insert - 0 ≡ c.insert = omega arith in
+    let before = take c.insert B ++ m in
+    let between = take (c.begin - c.insert) (drop c.insert B) in
+    ap (λ (ts : List Splice). spliced B ts) is.all
+    ∙ rw (is.put_begin, is.put_end, is.put_bytes, is.taken_begin, is.taken_end, is.taken_bytes, none)
+    (ap (λ (xs : List ℕ). before ++ (xs ++ drop c.end B)) (append-nil between)
+    ∙ sym (append_assoc before between (drop c.end B)))
