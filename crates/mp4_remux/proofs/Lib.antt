@@ -16,3 +16,8 @@ pub mod Grouping
 pub mod BothFiles
 pub mod BothForms
 pub mod Writing
+pub mod LastSamples
+pub mod RunSteps
+pub mod CutTracks
+pub mod CutWriting
+pub mod Moments
