@@ -46,6 +46,7 @@ macro_rules! of_boxes {
                 Stpp StppBox codes::STPP,
                 Tcmi TcmiBox codes::TCMI,
                 Text TextBox codes::TEXT,
+                Tx3g Tx3gBox codes::TX3G,
                 Wvtt WvttBox codes::WVTT
             ]
             $($rest)*
@@ -74,6 +75,7 @@ pub enum SoundBox {
     StppBox(StppBox),
     TcmiBox(TcmiBox),
     TextBox(TextBox),
+    Tx3gBox(Tx3gBox),
     WvttBox(WvttBox),
 }
 
@@ -98,6 +100,7 @@ pub enum SoundType {
     StppBox,
     TcmiBox,
     TextBox,
+    Tx3gBox,
     WvttBox,
 }
 
@@ -149,6 +152,7 @@ impl SoundDeclarations for SoundBox {
       | types.StppBox ↦ valid_as ⟦<Stpp as Described>⟧.declaration refl
       | types.TcmiBox ↦ valid_as ⟦<Tcmi as Described>⟧.declaration refl
       | types.TextBox ↦ valid_as ⟦<Text as Described>⟧.declaration refl
+      | types.Tx3gBox ↦ valid_as ⟦<Tx3g as Described>⟧.declaration refl
       | types.WvttBox ↦ valid_as ⟦<Wvtt as Described>⟧.declaration refl
     ] };
 }
@@ -348,6 +352,14 @@ impl Holds<TextBox> for SoundBox {
 
     fn wrap(value: TextBox) -> SoundBox {
         SoundBox::TextBox(value)
+    }
+}
+
+impl Holds<Tx3gBox> for SoundBox {
+    ghost wrapped = { boxes.Tx3gBox };
+
+    fn wrap(value: Tx3gBox) -> SoundBox {
+        SoundBox::Tx3gBox(value)
     }
 }
 

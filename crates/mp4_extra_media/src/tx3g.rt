@@ -9,14 +9,16 @@ ghost use Rattle.mp4_declared.specs.Layout.{packed, fields_of};
 
 use crate::nested::Nested;
 use mp4_declared::{
-    Bits, Declared, DeclaredBox, DeclaredEntry, EntryLayout, EntryVisitor, I8, I16, Last, Reserved,
-    Rest, Shape, ShapeVisitor, U8, U16, U32, box_of, entry_of, numbers_of, parts_of,
+    Bits, Context, Declared, DeclaredBox, DeclaredEntry, EntryLayout, EntryVisitor, I8, I16, Last,
+    PutShape, Reserved, Rest, Shape, ShapeVisitor, U8, U16, U32, box_of, entry_of, numbers_of,
+    parts_of,
 };
 use mp4_frame::{Entries, Result, TryClone, codes};
 use mp4_shown::{
     FieldSink, Group, HasFields, Meaning, NamedShape, NumberName, ShowShape, View, names_of,
     number, show_shape,
 };
+use std::alloc::Global;
 
 /// A colour.
 #[derive(Clone, Copy, Debug, Default, PartialEq, Eq)]
@@ -211,22 +213,115 @@ pub struct Tx3g {
     pub boxes: Entries<u8>,
 }
 
-/// The content of the box: six reserved bytes, four numbers, a colour, a place, a style, and bytes up to its end.
-pub type Tx3gShape = Reserved<
-    6,
+/// The layout of the parts after the reserved bytes: four numbers, a colour, a place, a style, and bytes up to the end.
+type Tx3gParts = (
+    U16,
+    U32,
+    I8,
+    I8,
     (
-        U16,
-        U32,
-        I8,
-        I8,
+        Bits<TextColor, 4, 4>,
+        Nested<BoxRecord>,
+        Nested<StyleRecord>,
+        Last<Rest>,
+    ),
+);
+
+/// The parts of the box after the reserved bytes. It is a separate type to keep proofs short.
+pub struct Tx3gContent;
+
+impl Shape for Tx3gContent {
+    type Value = (
+        u16,
         (
-            Bits<TextColor, 4, 4>,
-            Nested<BoxRecord>,
-            Nested<StyleRecord>,
-            Last<Rest>,
+            u32,
+            (
+                i8,
+                (
+                    i8,
+                    (TextColor, (BoxRecord, (StyleRecord, (Entries<u8>, ())))),
+                ),
+            ),
+        ),
+    );
+
+    ghost shape = { ⟦<Tx3gParts as Shape>⟧.shape };
+
+    ghost shape_laws = { ⟦<Tx3gParts as Shape>⟧.shape_laws };
+
+    fn is_fixed() -> bool {
+        Tx3gParts::is_fixed()
+    }
+
+    fn front(context: Context) -> usize {
+        Tx3gParts::front(context)
+    }
+
+    fn read(
+        alloc: Global,
+        bytes: &[u8],
+        at: usize,
+        end: u64,
+        context: Context,
+    ) -> Result<(<Tx3gContent as Shape>::Value, usize)> {
+        Tx3gParts::read(alloc, bytes, at, end, context)
+    }
+}
+
+/// The parts that are written.
+type Tx3gPieces<'a> = (
+    u16,
+    (
+        u32,
+        (
+            i8,
+            (
+                i8,
+                (
+                    TextColor,
+                    (&'a BoxRecord, (&'a StyleRecord, (&'a [u8], ()))),
+                ),
+            ),
         ),
     ),
->;
+);
+
+impl<'a> PutShape<Tx3gPieces<'a>> for Tx3gContent {
+    ghost content = { λ v. (
+      v.0,
+      (
+        v.1.0,
+        (
+          v.1.1.0,
+          (
+            v.1.1.1.0,
+            (
+              v.1.1.1.1.0,
+              (
+                v.1.1.1.1.1.0.now,
+                (v.1.1.1.1.1.1.0.now, (v.1.1.1.1.1.1.1.0.now, tt)),
+              ),
+            ),
+          ),
+        ),
+      ),
+    ) };
+
+    fn size(context: Context, value: Tx3gPieces<'a>) -> u64 {
+        Tx3gParts::size(context, value)
+    }
+
+    fn fits(context: Context, value: Tx3gPieces<'a>) -> bool {
+        Tx3gParts::fits(context, value)
+    }
+
+    fn put(out: &mut [u8], at: usize, context: Context, value: Tx3gPieces<'a>) -> usize {
+        Tx3gParts::put(out, at, context, value)
+    }
+}
+
+/// The content of the box: six reserved bytes, and parts.
+pub type Tx3gShape = Reserved<6, Tx3gContent>;
 
 impl DeclaredBox for Tx3g {
     ghost use Rattle.mp4_extra_media.specs.contracts.tx3g.Tx3g.{struct};

@@ -108,6 +108,12 @@ visit_declared-requires-in-TextBox g c = rw c.in-TextBox.is at c.requires
 pub returns-in-TextBox : goal.returns-in-TextBox
 returns-in-TextBox g c = rw c.in-TextBox.is c.visit_declared-in-TextBox.ensures
 
+pub visit_declared-requires-in-Tx3gBox : goal.visit_declared-requires-in-Tx3gBox
+visit_declared-requires-in-Tx3gBox g c = rw c.in-Tx3gBox.is at c.requires
+
+pub returns-in-Tx3gBox : goal.returns-in-Tx3gBox
+returns-in-Tx3gBox g c = rw c.in-Tx3gBox.is c.visit_declared-in-Tx3gBox.ensures
+
 pub visit_declared-requires-in-WvttBox : goal.visit_declared-requires-in-WvttBox
 visit_declared-requires-in-WvttBox g c = rw c.in-WvttBox.is at c.requires
 

@@ -93,6 +93,11 @@ returns-in-TextBox g c =
     same_events sound_types ghosts.declared g.K.FieldSink.trace g.K.FieldSink.after c.show-in-TextBox.result
     c.args.sink.now c.show-in-TextBox.new.sink c.args.view c.args.self.now _ c.in-TextBox.is c.show-in-TextBox.ensures
 
+pub returns-in-Tx3gBox : goal.returns-in-Tx3gBox
+returns-in-Tx3gBox g c =
+    same_events sound_types ghosts.declared g.K.FieldSink.trace g.K.FieldSink.after c.show-in-Tx3gBox.result
+    c.args.sink.now c.show-in-Tx3gBox.new.sink c.args.view c.args.self.now _ c.in-Tx3gBox.is c.show-in-Tx3gBox.ensures
+
 pub returns-in-WvttBox : goal.returns-in-WvttBox
 returns-in-WvttBox g c =
     same_events sound_types ghosts.declared g.K.FieldSink.trace g.K.FieldSink.after c.show-in-WvttBox.result
