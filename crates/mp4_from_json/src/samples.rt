@@ -5,7 +5,13 @@ ghost use Rattle.mp4_from_json.specs.Shapes.{made_of};
 
 use crate::{NO_CONTEXT, Object, Result, TakeFields, TakeShape};
 use mp4_declared::DeclaredBox;
-use mp4_extra::*;
+use mp4_extra_samples::cslg::Cslg;
+use mp4_extra_samples::saio::Saio;
+use mp4_extra_samples::saiz::Saiz;
+use mp4_extra_samples::sbgp::Sbgp;
+use mp4_extra_samples::sdtp::Sdtp;
+use mp4_extra_samples::senc::Senc;
+use mp4_extra_samples::subs::Subs;
 use mp4_extra_samples::*;
 use std::alloc::Global;
 

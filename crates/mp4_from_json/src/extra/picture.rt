@@ -8,7 +8,26 @@ ghost use Rattle.mp4_from_json.specs.Taking.{TakesAs};
 
 use super::read_declared;
 use crate::{Result, TakeFields};
-use mp4_extra::*;
+use mp4_extra_pictures::auxc::{Auxc, AuxcBox};
+use mp4_extra_pictures::av1c::{Av1c, Av1cBox};
+use mp4_extra_pictures::avcc::{Avcc, AvccBox};
+use mp4_extra_pictures::btrt::{Btrt, BtrtBox};
+use mp4_extra_pictures::clap::{Clap, ClapBox};
+use mp4_extra_pictures::clli::{Clli, ClliBox};
+use mp4_extra_pictures::colr::{Colr, ColrBox};
+use mp4_extra_pictures::dvcc::{Dvcc, DvccBox};
+use mp4_extra_pictures::dvvc::{Dvvc, DvvcBox};
+use mp4_extra_pictures::fiel::{Fiel, FielBox};
+use mp4_extra_pictures::hvcc::{Hvcc, HvccBox};
+use mp4_extra_pictures::imir::{Imir, ImirBox};
+use mp4_extra_pictures::irot::{Irot, IrotBox};
+use mp4_extra_pictures::ispe::{Ispe, IspeBox};
+use mp4_extra_pictures::mdcv::{Mdcv, MdcvBox};
+use mp4_extra_pictures::pasp::{Pasp, PaspBox};
+use mp4_extra_pictures::picture_box::{PictureBox, PictureType};
+use mp4_extra_pictures::pixi::{Pixi, PixiBox};
+use mp4_extra_pictures::vpcc::{Vpcc, VpccBox};
+use mp4_extra_pictures::vvcc::{Vvcc, VvccBox};
 use std::alloc::Global;
 
 /// For the prover: what is taken of a box of each type.

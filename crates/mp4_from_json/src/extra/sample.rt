@@ -8,7 +8,23 @@ ghost use Rattle.mp4_from_json.specs.Taking.{TakesAs};
 
 use super::read_declared;
 use crate::{Result, TakeFields};
-use mp4_extra::*;
+use mp4_extra_samples::cslg::{Cslg, CslgBox};
+use mp4_extra_samples::leva::{Leva, LevaBox};
+use mp4_extra_samples::mfro::{Mfro, MfroBox};
+use mp4_extra_samples::prft::{Prft, PrftBox};
+use mp4_extra_samples::saio::{Saio, SaioBox};
+use mp4_extra_samples::saiz::{Saiz, SaizBox};
+use mp4_extra_samples::sample_box::{SampleBox, SampleType};
+use mp4_extra_samples::sbgp::{Sbgp, SbgpBox};
+use mp4_extra_samples::sdtp::{Sdtp, SdtpBox};
+use mp4_extra_samples::senc::{Senc, SencBox};
+use mp4_extra_samples::sgpd::{Sgpd, SgpdBox};
+use mp4_extra_samples::sidx::{Sidx, SidxBox};
+use mp4_extra_samples::ssix::{Ssix, SsixBox};
+use mp4_extra_samples::styp::{Styp, StypBox};
+use mp4_extra_samples::stz2::{Stz2, Stz2Box};
+use mp4_extra_samples::subs::{Subs, SubsBox};
+use mp4_extra_samples::tfra::{Tfra, TfraBox};
 use std::alloc::Global;
 
 /// For the prover: what is taken of a box of each type.

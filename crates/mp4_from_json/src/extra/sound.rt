@@ -8,7 +8,26 @@ ghost use Rattle.mp4_from_json.specs.Taking.{TakesAs};
 
 use super::read_declared;
 use crate::{Result, TakeFields};
-use mp4_extra::*;
+use mp4_extra_sound::alac::{Alac, AlacBox};
+use mp4_extra_sound::chan::{Chan, ChanBox};
+use mp4_extra_sound::chnl::{Chnl, ChnlBox};
+use mp4_extra_sound::dac3::{Dac3, Dac3Box};
+use mp4_extra_sound::dec3::{Dec3, Dec3Box};
+use mp4_extra_sound::dfla::{Dfla, DflaBox};
+use mp4_extra_sound::dops::{Dops, DopsBox};
+use mp4_extra_sound::enda::{Enda, EndaBox};
+use mp4_extra_sound::esds::{Esds, EsdsBox};
+use mp4_extra_sound::ftab::{Ftab, FtabBox};
+use mp4_extra_sound::gmin::{Gmin, GminBox};
+use mp4_extra_sound::hmhd::{Hmhd, HmhdBox};
+use mp4_extra_sound::nmhd::{Nmhd, NmhdBox};
+use mp4_extra_sound::sound_box::{SoundBox, SoundType};
+use mp4_extra_sound::srat::{Srat, SratBox};
+use mp4_extra_sound::sthd::{Sthd, SthdBox};
+use mp4_extra_sound::stpp::{Stpp, StppBox};
+use mp4_extra_sound::tcmi::{Tcmi, TcmiBox};
+use mp4_extra_sound::text::{Text, TextBox};
+use mp4_extra_sound::wvtt::{Wvtt, WvttBox};
 use std::alloc::Global;
 
 /// For the prover: what is taken of a box of each type.

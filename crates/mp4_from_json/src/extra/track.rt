@@ -8,7 +8,26 @@ ghost use Rattle.mp4_from_json.specs.Taking.{TakesAs};
 
 use super::read_declared;
 use crate::{Result, TakeFields};
-use mp4_extra::*;
+use mp4_extra_tracks::alis::{Alis, AlisBox};
+use mp4_extra_tracks::data::{Data, DataBox};
+use mp4_extra_tracks::elng::{Elng, ElngBox};
+use mp4_extra_tracks::frma::{Frma, FrmaBox};
+use mp4_extra_tracks::hdlr::{Hdlr, HdlrBox};
+use mp4_extra_tracks::iloc::{Iloc, IlocBox};
+use mp4_extra_tracks::infe::{Infe, InfeBox};
+use mp4_extra_tracks::iods::{Iods, IodsBox};
+use mp4_extra_tracks::ipma::{Ipma, IpmaBox};
+use mp4_extra_tracks::keys::{Keys, KeysBox};
+use mp4_extra_tracks::kind::{Kind, KindBox};
+use mp4_extra_tracks::mean::{Mean, MeanBox};
+use mp4_extra_tracks::name::{Name, NameBox};
+use mp4_extra_tracks::pitm::{Pitm, PitmBox};
+use mp4_extra_tracks::pssh::{Pssh, PsshBox};
+use mp4_extra_tracks::schm::{Schm, SchmBox};
+use mp4_extra_tracks::tenc::{Tenc, TencBox};
+use mp4_extra_tracks::track_box::{TrackBox, TrackType};
+use mp4_extra_tracks::tref::{Tref, TrefBox};
+use mp4_extra_tracks::urn::{Urn, UrnBox};
 use std::alloc::Global;
 
 /// For the prover: what is taken of a box of each type.
