@@ -1,0 +1,76 @@
+-- The time of the media of a track that is presented at 0, by its edit list (ISO/IEC 14496-12, 8.6.6).
+use Rattle.std.specs.Prelude.{ℕ, ℤ, pos, ◌≡◌, ◌+◌, ◌-ℤ◌, ◌*◌, ◌/◌, ◌<◌, ◌⊎◌, true, false, List, [], length, get_or}
+use Rattle.std.specs.Prelude.{None, Some, Ok, Result}
+use Rattle.std.specs.declared.option.Option.{Option}
+use Rattle.mp4_flat.specs.Boxes.{reads_mvhd}
+use Rattle.mp4_frame.specs.FourCC.{four_cc_of}
+use Rattle.mp4_frame.specs.declared.codes.TheConstants as codes
+use Rattle.mp4_movie.specs.Levels.{after_of, first_in, movie_in}
+use Rattle.mp4_movie.specs.Movies.{timescale}
+use Rattle.mp4_movie.specs.Problems.{Problem, ◌>>=◌}
+use Rattle.mp4_movie.specs.Reads.{optional, required, some_of, value_at}
+use Rattle.mp4_samples.specs.Edits.{durations_before, edit_in, is_empty_edit}
+use Rattle.mp4_tables.specs.Boxes.{reads_elst}
+use Rattle.mp4_tables.specs.ElstEntry.{is_long}
+use Rattle.mp4_tables.specs.declared.elst.ElstBox.{ElstBox}
+use Rattle.mp4_walk.specs.FileBoxes.{boxes_of}
+use Rattle.mp4_walk.specs.declared.tree_box.TreeBox.{TreeBox}
+use Rattle.mp4_remux.specs.Told.{at_track}
+use Rattle.mp4_remux.specs.Whole.{track_count}
+use Rattle.mp4_remux.specs.declared.parts.part.Part.{Part}
+
+-- the edit list of a track: the first `elst` in its first `edts`. `trak` begins with the boxes inside its `trak`
+abbrev pub edit_list : List ℕ → List TreeBox → Result (Option ElstBox) Problem
+edit_list file trak =
+    optional reads_elst codes.ELST file
+    (first_in 3 (four_cc_of codes.ELST) (after_of (first_in 2 (four_cc_of codes.EDTS) trak)))
+
+-- the edit list at this place, if there is one
+abbrev pub list_at : List ℕ → Option TreeBox → Result (Option ElstBox) Problem
+list_at file None = Ok None
+list_at file (Some x) = some_of (value_at reads_elst codes.ELST file x)
+
+-- the timescale of the movie (8.2.2), which the durations of edits have
+abbrev pub movie_scale : List ℕ → Result ℕ Problem
+movie_scale file =
+    required reads_mvhd codes.MVHD file (first_in 1 (four_cc_of codes.MVHD) (movie_in (boxes_of file))) >>= λ v. Ok
+    v.timescale
+
+-- the timescale in the header at this place
+abbrev pub scale_at : List ℕ → TreeBox → Result ℕ Problem
+scale_at file x = value_at reads_mvhd codes.MVHD file x >>= λ v. Ok v.timescale
+
+-- this many ticks of the movie, in those of the media, rounded down
+abbrev pub late_by : ℕ → ℕ → ℕ → ℕ
+late_by delay movie media = delay * media / movie
+
+-- the list presents the media by its last edit, at rate 1, after empty edits, and so presents the time o at 0
+pub record IsOriginBy (b : ElstBox) (movie media : ℕ) (o : ℤ) : Type 0 where
+  pub last : ℕ
+  pub counted : length b.entries ≡ last + 1
+  pub empty : (k : ℕ) → k < last → is_empty_edit (is_long b.version) (edit_in b.entries k) ≡ true
+  pub plays : is_empty_edit (is_long b.version) (edit_in b.entries last) ≡ false
+  pub rate : (edit_in b.entries last).media_rate ≡ 1
+  pub fraction : (edit_in b.entries last).media_rate_fraction ≡ 0
+  pub origin : o ≡ pos (edit_in b.entries last).media_time
+      -ℤ pos (late_by (durations_before b.entries last) movie media)
+
+-- without an edit list, and with an empty one, the media begins at 0
+abbrev pub IsOriginIn : Option ElstBox → ℕ → ℕ → ℤ → Type 0
+IsOriginIn None movie media o = o ≡ pos 0
+IsOriginIn (Some b) movie media o = ((b.entries ≡ []) × (o ≡ pos 0)) ⊎ IsOriginBy b movie media o
+
+-- track n of the file B presents the time o of its media at 0
+pub record IsOrigin (B : List ℕ) (n : ℕ) (o : ℤ) : Type 0 where
+  pub list : Option ElstBox
+  pub movie : ℕ
+  pub media : ℕ
+  pub is_list : at_track edit_list B n ≡ Ok list
+  pub is_movie : movie_scale B ≡ Ok movie
+  pub is_media : at_track timescale B n ≡ Ok media
+  pub is : IsOriginIn list movie media o
+
+-- the origins of the part p are those of the tracks of the file B
+abbrev pub HasOrigins : Part → List ℕ → Type 0
+HasOrigins p B = (n : ℕ) → n < track_count B → IsOrigin B n (get_or p.origins.items n (pos 0))
+
