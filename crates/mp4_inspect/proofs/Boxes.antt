@@ -15,14 +15,18 @@ use Rattle.mp4_io.specs.declared.failure.Failure.{Failure}
 use Rattle.mp4_io.specs.declared.failure.Failure.TheVariants as failures
 use Rattle.mp4_inspect.specs.Written.{Tells, TellsAll, WritesBox, WritesBoxes, BeginsBox, BeginsBoxes, WritesFile}
 use Rattle.mp4_inspect.specs.Written.{BeginsFile}
+use Rattle.mp4_show.specs.declared.look.Look.{Look}
+use Rattle.mp4_shown.specs.Event.{Event}
+use Rattle.mp4_shown.specs.declared.view.View.{View}
 use Rattle.mp4_walk.specs.FileBoxes.{boxes_of}
 use Rattle.mp4_walk.specs.declared.tree_box.TreeBox.{TreeBox}
 
-module _ {A : Type 0} (known : BoxType → Bool) (reading : BoxType → List ℕ → ℕ → ℕ → Reading A) (B : List ℕ) where
+module _ {A : Type 0} (known : BoxType → Bool) (reading : BoxType → List ℕ → ℕ → ℕ → Reading A)
+    (shown : View → A → List Event) (look : Look) (B : List ℕ) where
   -- a box after others
   tells_more : (boxes : List TreeBox) (text : List ℕ) (faulty : Bool) (found : TreeBox) (last : List ℕ) (here : Bool)
-      → TellsAll known reading B boxes text faulty → Tells known reading B found last here
-      → TellsAll known reading B (boxes ++ found ∷ []) (text ++ last) (faulty || here)
+      → TellsAll known reading shown look B boxes text faulty → Tells known reading shown look B found last here
+      → TellsAll known reading shown look B (boxes ++ found ∷ []) (text ++ last) (faulty || here)
   tells_more [] text faulty found last here (none, sound) tells = (
     last,
     [],
@@ -46,19 +50,19 @@ module _ {A : Type 0} (known : BoxType → Bool) (reading : BoxType → List ℕ
       )
 
   -- nothing is written of no boxes
-  pub writes_none : (a : Option (List ℕ)) → WritesBoxes known reading B [] a a false
+  pub writes_none : (a : Option (List ℕ)) → WritesBoxes known reading shown look B [] a a false
   writes_none a = ([], (refl, refl), Appends-nil a)
 
   -- one more box is written
   pub writes_more : (boxes : List TreeBox) (i : ℕ) (found : TreeBox) (a b c : Option (List ℕ)) (faulty here : Bool)
       → i < length boxes
-      → WritesBoxes known reading B (take i boxes) a b faulty
-      → WritesBox known reading B (get_or boxes i found) b c here
-      → WritesBoxes known reading B (take (i + 1) boxes) a c (faulty || here)
+      → WritesBoxes known reading shown look B (take i boxes) a b faulty
+      → WritesBox known reading shown look B (get_or boxes i found) b c here
+      → WritesBoxes known reading shown look B (take (i + 1) boxes) a c (faulty || here)
   writes_more boxes i found a b c faulty here inside (text, tells, appends) (last, tells_last, appends_last) =
       let all = take_more boxes i found inside in (
         text ++ last,
-        subst (λ (xs : List TreeBox). TellsAll known reading B xs (text ++ last) (faulty || here)) (sym all)
+        subst (λ (xs : List TreeBox). TellsAll known reading shown look B xs (text ++ last) (faulty || here)) (sym all)
             (tells_more (take i boxes) text faulty (get_or boxes i found) last here tells tells_last),
         Appends-trans a b c text last appends appends_last,
       )
@@ -66,8 +70,9 @@ module _ {A : Type 0} (known : BoxType → Bool) (reading : BoxType → List ℕ
   -- a beginning of a box, after whole boxes
   pub begins_more : (boxes : List TreeBox) (i : ℕ) (found : TreeBox) (a b c : Option (List ℕ)) (faulty : Bool)
       → i < length boxes
-      → WritesBoxes known reading B (take i boxes) a b faulty → BeginsBox known reading B (get_or boxes i found) b c
-      → BeginsBoxes known reading B boxes a c
+      → WritesBoxes known reading shown look B (take i boxes) a b faulty
+      → BeginsBox known reading shown look B (get_or boxes i found) b c
+      → BeginsBoxes known reading shown look B boxes a c
   begins_more boxes i found a b c faulty inside (text, tells, appends) (inl none) = (
     i,
     length text,
@@ -82,57 +87,59 @@ module _ {A : Type 0} (known : BoxType → Bool) (reading : BoxType → List ℕ
         length text + k,
         text ++ last,
         (faulty || here),
-        subst (λ (xs : List TreeBox). TellsAll known reading B xs (text ++ last) (faulty || here)) (sym all)
+        subst (λ (xs : List TreeBox). TellsAll known reading shown look B xs (text ++ last) (faulty || here)) (sym all)
             (tells_more (take i boxes) text faulty (get_or boxes i found) last here tells tells_last),
         subst (Appends a c) (sym (take-append-add text last k))
             (Appends-trans a b c text (take k last) appends appends_last),
       )
 
-module _ {A : Type 0} (known : BoxType → Bool) (reading : BoxType → List ℕ → ℕ → ℕ → Reading A) where
+module _ {A : Type 0} (known : BoxType → Bool) (reading : BoxType → List ℕ → ℕ → ℕ → Reading A)
+    (shown : View → A → List Event) (look : Look) where
   -- the boxes of a file after its heading
   pub writes_file : (heading B : List ℕ) (boxes : List TreeBox) (a b c : Option (List ℕ)) (faulty : Bool)
       → boxes ≡ boxes_of B → Appends a b heading
-      → WritesBoxes known reading B boxes b c faulty → WritesFile known reading heading B a c faulty
+      → WritesBoxes known reading shown look B boxes b c faulty
+      → WritesFile known reading shown look heading B a c faulty
   writes_file heading B boxes a b c faulty all headed (text, tells, appends) = (
     text,
-    subst (λ (xs : List TreeBox). TellsAll known reading B xs text faulty) all tells,
+    subst (λ (xs : List TreeBox). TellsAll known reading shown look B xs text faulty) all tells,
     Appends-trans a b c heading text headed appends,
   )
 
   -- a beginning of the boxes of a file after its heading
   pub begins_file : (heading B : List ℕ) (boxes : List TreeBox) (a b c : Option (List ℕ)) → boxes ≡ boxes_of B
       → Appends a b heading
-      → BeginsBoxes known reading B boxes b c → BeginsFile known reading heading B a c
+      → BeginsBoxes known reading shown look B boxes b c → BeginsFile known reading shown look heading B a c
   begins_file heading B boxes a b c all headed (n, k, text, faulty, tells, appends) = (
     n,
     length heading + k,
     text,
     faulty,
-    subst (λ (xs : List TreeBox). TellsAll known reading B (take n xs) text faulty) all tells,
+    subst (λ (xs : List TreeBox). TellsAll known reading shown look B (take n xs) text faulty) all tells,
     subst (Appends a c) (sym (take-append-add heading text k)) (Appends-trans a b c heading
         (take k text) headed appends),
   )
 
   -- a beginning of only the heading
   begins_heading : (heading B : List ℕ) (a b : Option (List ℕ)) (k : ℕ) → Appends a b (take k heading)
-      → BeginsFile known reading heading B a b
+      → BeginsFile known reading shown look heading B a b
   begins_heading heading B a b k begun =
       (0, k, [], false, (refl, refl), subst (λ (xs : List ℕ). Appends a b (take k xs)) (sym (append-nil heading)) begun)
 
   -- nothing is written
-  pub begins_nothing : (heading B : List ℕ) (a : Option (List ℕ)) → BeginsFile known reading heading B a a
+  pub begins_nothing : (heading B : List ℕ) (a : Option (List ℕ)) → BeginsFile known reading shown look heading B a a
   begins_nothing heading B a = (0, 0, [], false, (refl, refl), Appends-nil a)
 
   -- that holds for every outcome, whether or not the bytes are known
   pub begins_unwritten : (result : Result Bool Failure) (r : Option (List ℕ)) (heading : List ℕ) (a : Option (List ℕ))
-      → OnErr result (IfSome r (λ B. BeginsFile known reading heading B a a))
+      → OnErr result (IfSome r (λ B. BeginsFile known reading shown look heading B a a))
   begins_unwritten (Ok faulty) r heading a = tt
   begins_unwritten (Err failure) None heading a = tt
   begins_unwritten (Err failure) (Some B) heading a = begins_nothing heading B a
 
   -- the heading could not be written
   pub begins_of_failed : (V : Type 0) (text heading B : List ℕ) (a b : Option (List ℕ)) (failure : Failure)
-      → text ≡ heading → WritesAll {V = V} a b (Err failure) text → BeginsFile known reading heading B a b
+      → text ≡ heading → WritesAll {V = V} a b (Err failure) text → BeginsFile known reading shown look heading B a b
   begins_of_failed V text heading B a b failures.Write same (k, begun) =
       begins_heading heading B a b k (subst (λ (h : List ℕ). Appends a b (take k h)) same begun)
   begins_of_failed V text heading B a b failures.Read same none = absurd none
@@ -141,8 +148,9 @@ module _ {A : Type 0} (known : BoxType → Bool) (reading : BoxType → List ℕ
   -- the whole tree under its heading
   pub texts_of : (heading : List ℕ) (boxes : List TreeBox) (r : Option (List ℕ)) (a b c : Option (List ℕ))
       (result : Result Bool Failure) → Appends a b heading
-      → IfSome r (λ B. IfOk result (λ faulty. WritesBoxes known reading B boxes b c faulty))
-      → IfSome r (λ B. boxes ≡ boxes_of B → IfOk result (λ faulty. WritesFile known reading heading B a c faulty))
+      → IfSome r (λ B. IfOk result (λ faulty. WritesBoxes known reading shown look B boxes b c faulty))
+      → IfSome r (λ B. boxes ≡ boxes_of B
+      → IfOk result (λ faulty. WritesFile known reading shown look heading B a c faulty))
   texts_of heading boxes None a b c result headed written = tt
   texts_of heading boxes (Some B) a b c (Ok faulty) headed written =
       λ all. writes_file heading B boxes a b c faulty all headed written
@@ -151,8 +159,8 @@ module _ {A : Type 0} (known : BoxType → Bool) (reading : BoxType → List ℕ
   -- a beginning of the tree, after the whole heading
   pub beginning_of : (heading : List ℕ) (boxes : List TreeBox) (r : Option (List ℕ)) (a b c : Option (List ℕ))
       (result : Result Bool Failure) → Appends a b heading
-      → OnErr result (IfSome r (λ B. BeginsBoxes known reading B boxes b c))
-      → OnErr result (IfSome r (λ B. boxes ≡ boxes_of B → BeginsFile known reading heading B a c))
+      → OnErr result (IfSome r (λ B. BeginsBoxes known reading shown look B boxes b c))
+      → OnErr result (IfSome r (λ B. boxes ≡ boxes_of B → BeginsFile known reading shown look heading B a c))
   beginning_of heading boxes r a b c (Ok faulty) headed begun = tt
   beginning_of heading boxes None a b c (Err failure) headed begun = tt
   beginning_of heading boxes (Some B) a b c (Err failure) headed begun =

@@ -92,20 +92,20 @@ pub puts_nothing : (a : Written) → Puts a a []
 puts_nothing a = (refl, sym (append-nil a.tokens))
 
 -- a box, if all of it could be written
-pub puts_box : {E A : Type 0} (r : Result (Unit {0}) E) (shown : View → A → List Event) (quicktime : Bool) (begun : ℕ)
+pub puts_box : {E A : Type 0} (r : Result (Unit {0}) E) (shown : View → A → List Event) (begun : ℕ)
     (found : TreeBox) (content : Content A) (a b c d e : Written)
     → Puts a b (levels_end (begun - found.depth)) → Puts b c (head_tokens found)
-    → ((rest : List Token) × IsRest shown quicktime content rest × Puts c d rest)
+    → ((rest : List Token) × IsRest shown found content rest × Puts c d rest)
     → OnOk r (Puts d e (end_tokens found.children))
-    → OnOk r ((rest : List Token) × IsRest shown quicktime content rest × Puts a e (box_tokens begun found rest))
-puts_box (Ok _) shown quicktime begun found content a b c d e ended head (rest, is, put) last = (
+    → OnOk r ((rest : List Token) × IsRest shown found content rest × Puts a e (box_tokens begun found rest))
+puts_box (Ok _) shown begun found content a b c d e ended head (rest, is, put) last = (
   rest,
   is,
   puts_more a b e (levels_end (begun - found.depth)) (head_tokens found ++ (rest ++ end_tokens found.children)) ended
       (puts_more b c e (head_tokens found) (rest ++ end_tokens found.children) head
       (puts_more c d e rest (end_tokens found.children) put last)),
 )
-puts_box (Err _) shown quicktime begun found content a b c d e ended head rest last = tt
+puts_box (Err _) shown begun found content a b c d e ended head rest last = tt
 
 -- the output for the first `i` boxes, which together with that for the others is the output for all
 abbrev pub Leads : {A : Type 0} → (BoxType → Bool) → (BoxType → List ℕ → ℕ → ℕ → Reading A)

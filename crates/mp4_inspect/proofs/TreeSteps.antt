@@ -17,6 +17,7 @@ use Rattle.mp4_inspect.specs.Written.{WritesBoxes}
 use Rattle.mp4_inspect.specs.declared.get.Got.{Got}
 use Rattle.mp4_inspect.specs.declared.pattern.Pattern.{Pattern}
 use Rattle.mp4_lemmas.proofs.Booleans.{by_bool}
+use Rattle.mp4_show.specs.declared.look.Look.{Look}
 use Rattle.mp4_shown.specs.Event.{Event}
 use Rattle.mp4_shown.specs.declared.view.View.{View}
 use Rattle.mp4_walk.specs.FileBoxes.{boxes_of}
@@ -54,18 +55,19 @@ found_is pattern file boxes shown faulty got all chosen is =
 
 module _ {A : Type 0} (known : BoxType → Bool) (reading : BoxType → List ℕ → ℕ → ℕ → Reading A)
     (pattern : Pattern) where
-  pub trees_written : (bytes walked : Option (List ℕ)) (boxes shown : List TreeBox) (a b : Option (List ℕ))
-      (faulty : Bool) (got : Got) → walked ≡ bytes → IfSome bytes (λ file. boxes ≡ boxes_of file)
+  pub trees_written : (shows : View → A → List Event) (look : Look) (bytes walked : Option (List ℕ))
+      (boxes shown : List TreeBox) (a b : Option (List ℕ)) (faulty : Bool) (got : Got)
+      → walked ≡ bytes → IfSome bytes (λ file. boxes ≡ boxes_of file)
       → shown ≡ trees_at pattern boxes
-      → IfSome walked (λ file. WritesBoxes known reading file shown a b faulty)
+      → IfSome walked (λ file. WritesBoxes known reading shows look file shown a b faulty)
       → got ≡ got_of (not (length shown == 0)) faulty
-      → IfSome bytes (λ file. WritesTrees known reading pattern file a b got)
-  trees_written None walked boxes shown a b faulty got same all chosen written is = tt
-  trees_written (Some file) walked boxes shown a b faulty got same all chosen written is = record {
+      → IfSome bytes (λ file. WritesTrees known reading shows look pattern file a b got)
+  trees_written shows look None walked boxes shown a b faulty got same all chosen written is = tt
+  trees_written shows look (Some file) walked boxes shown a b faulty got same all chosen written is = record {
     faulty = faulty;
-    writes = subst (λ (xs : List TreeBox). WritesBoxes known reading file xs a b faulty)
+    writes = subst (λ (xs : List TreeBox). WritesBoxes known reading shows look file xs a b faulty)
         (chosen ∙ ap (trees_at pattern) all)
-        (some_at walked file (λ (bs : List ℕ). WritesBoxes known reading bs shown a b faulty) same written);
+        (some_at walked file (λ (bs : List ℕ). WritesBoxes known reading shows look bs shown a b faulty) same written);
     is_found = found_is pattern file boxes shown faulty got all chosen is;
   }
 

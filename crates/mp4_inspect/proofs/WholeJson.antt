@@ -117,17 +117,17 @@ nothing levels ts rest none inside =
 
 -- the content of a box is written
 rests : {A : Type 0} (shown : View → A → List Event) → ((view : View) (v : A) → AreMembers (shown view v))
-    → (quicktime : Bool) (content : Content A) (levels : List Level) (ts rest : List Token)
-    → IsRest shown quicktime content rest → Inside (members ∷ levels) ts → Inside (members ∷ levels) (ts ++ rest)
-rests shown whole quicktime contents.Boxes levels ts rest none inside = nothing levels ts rest none inside
-rests shown whole quicktime contents.Deep levels ts rest none inside = nothing levels ts rest none inside
-rests shown whole quicktime contents.Unread levels ts rest none inside = nothing levels ts rest none inside
-rests shown whole quicktime (contents.Known value) levels ts rest is inside =
+    → (found : TreeBox) (content : Content A) (levels : List Level) (ts rest : List Token)
+    → IsRest shown found content rest → Inside (members ∷ levels) ts → Inside (members ∷ levels) (ts ++ rest)
+rests shown whole found contents.Boxes levels ts rest none inside = nothing levels ts rest none inside
+rests shown whole found contents.Deep levels ts rest none inside = nothing levels ts rest none inside
+rests shown whole found contents.Unread levels ts rest none inside = nothing levels ts rest none inside
+rests shown whole found (contents.Known value) levels ts rest is inside =
     fields (shown json_view value) levels ts rest (whole json_view value) is inside
-rests shown whole quicktime (contents.Front kind bytes) levels ts rest (rate, is) inside =
-    fields (front_fields kind quicktime bytes.items (shown_of rate)) levels ts rest
-    (front_whole kind quicktime bytes.items (shown_of rate)) is inside
-rests shown whole quicktime (contents.Faulty fault) levels ts rest (text, is) inside =
+rests shown whole found (contents.Front kind bytes) levels ts rest (rate, is) inside =
+    fields (front_fields kind (is_quicktime found) bytes.items (shown_of rate)) levels ts rest
+    (front_whole kind (is_quicktime found) bytes.items (shown_of rate)) is inside
+rests shown whole found (contents.Faulty fault) levels ts rest (text, told, is) inside =
     subst (λ (xs : List Token). Inside (members ∷ levels) (ts ++ xs)) (sym is)
     (member levels ts (codes "fault") (Token.string text ∷ []) inside (Value.string text, refl))
 
@@ -165,7 +165,7 @@ module _ {A : Type 0} (known : BoxType → Bool) (reading : BoxType → List ℕ
       (all_boxes boxes (open_after begun found) (((ended ++ head_tokens found) ++ rest) ++ end_tokens
       found.children) more there are
       (tails found.children n ((ended ++ head_tokens found) ++ rest)
-      (rests shown whole (is_quicktime found) content (entries ∷ members ∷ under n)
+      (rests shown whole found content (entries ∷ members ∷ under n)
       (ended ++ head_tokens found) rest is_rest
       (heads n found ended (ends (begun - found.depth) n begun ts fits inside))))))
 

@@ -1,5 +1,5 @@
 -- The JSON of a file, in tokens (RFC 8259).
-use Rattle.std.specs.Prelude.{◌≡◌, ℕ, zero, suc, ◌-◌, ◌==◌, ◌||◌, min, Bool, false, true}
+use Rattle.std.specs.Prelude.{◌≡◌, ℕ, zero, suc, ◌-◌, ◌==◌, ◌||◌, min, Bool, false}
 use Rattle.std.specs.Prelude.{List, [], ◌∷◌, ◌++◌, codes, decimal}
 use Rattle.std.specs.Prelude.{IfSome}
 use Rattle.std.specs.Prelude.{None, Some, if◌then◌else◌}
@@ -11,6 +11,7 @@ use Rattle.mp4_frame.specs.Reading.{Reading}
 use Rattle.mp4_frame.specs.declared.box_type.BoxType.{BoxType}
 use Rattle.mp4_frame.specs.declared.four_cc.FourCC.{FourCC}
 use Rattle.mp4_content.specs.Content.{ShowsAs, is_faulty}
+use Rattle.mp4_content.specs.FaultText.{IsFaultText}
 use Rattle.mp4_content.specs.Fields.{front_fields, json_view}
 use Rattle.mp4_content.specs.Kind.{kind_of}
 use Rattle.mp4_content.specs.declared.content.Content.{Content}
@@ -44,19 +45,19 @@ head_tokens found =
 abbrev pub fields_tokens : List Event → List Token
 fields_tokens es = Token.key (codes "fields") ∷ Token.begin_object ∷ (all_tokens es ++ Token.end_object ∷ [])
 
--- the next member of the object of a box, by its content: its fields, its fault or nothing. A whole box is shown in
--- this way, and a sound entry of QuickTime with its version. The rate in version 2 of such an entry is a number.
-abbrev pub IsRest : {A : Type 0} → (View → A → List Event) → Bool → Content A → List Token → Type 0
-IsRest shown quicktime (contents.Faulty fault) ts =
-    (text : List ℕ) × (ts ≡ Token.key (codes "fault") ∷ Token.string text ∷ [])
-IsRest shown quicktime (contents.Known value) ts = ts ≡ fields_tokens (shown json_view value)
-IsRest shown quicktime (contents.Front kind bytes) ts =
-    (rate : Value) × (ts ≡ fields_tokens (front_fields kind quicktime bytes.items (shown_of rate)))
-IsRest shown quicktime _ ts = ts ≡ []
-
 -- the box is in the sample descriptions of a QuickTime file
 abbrev pub is_quicktime : TreeBox → Bool
 is_quicktime found = found.context.stsd_version == 0
+
+-- the next member of the object of a box, by its content: its fields, its fault or nothing. A whole box is shown in
+-- this way, and a sound entry of QuickTime with its version. The rate in version 2 of such an entry is a number.
+abbrev pub IsRest : {A : Type 0} → (View → A → List Event) → TreeBox → Content A → List Token → Type 0
+IsRest shown found (contents.Faulty fault) ts =
+    (text : List ℕ) × IsFaultText found fault text × (ts ≡ Token.key (codes "fault") ∷ Token.string text ∷ [])
+IsRest shown found (contents.Known value) ts = ts ≡ fields_tokens (shown json_view value)
+IsRest shown found (contents.Front kind bytes) ts =
+    (rate : Value) × (ts ≡ fields_tokens (front_fields kind (is_quicktime found) bytes.items (shown_of rate)))
+IsRest shown found _ ts = ts ≡ []
 
 -- the end of the object; in a box with children, the beginning of these, and the object ends after them
 abbrev pub end_tokens : Option ℕ → List Token
@@ -87,7 +88,7 @@ abbrev pub IsShown : {A : Type 0} → (BoxType → Bool) → (BoxType → List �
     → (View → A → List Event) → Option (List ℕ) → TreeBox → List Token → Bool → Type 0
 IsShown {A} known reading shown bytes found rest faulty =
     (content : Content A) × IfSome bytes (λ B. ShowsAs known reading B found (kind_of known found) content)
-    × IsRest shown (is_quicktime found) content rest × (faulty ≡ is_faulty content)
+    × IsRest shown found content rest × (faulty ≡ is_faulty content)
 
 -- the remaining boxes in order, with `n` containers open before them, and then the ends of all open containers; and
 -- whether one of the boxes has a fault

@@ -13,5 +13,6 @@ pub mod PatternText
 pub mod Patterns
 pub mod RowChanges
 pub mod Rows
+pub mod TreeLines
 pub mod Trees
 pub mod Written

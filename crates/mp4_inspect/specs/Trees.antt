@@ -9,15 +9,17 @@ use Rattle.mp4_inspect.specs.Patterns.{got_of, has_box, trees_at}
 use Rattle.mp4_inspect.specs.Written.{WritesBoxes}
 use Rattle.mp4_inspect.specs.declared.get.Got.{Got}
 use Rattle.mp4_inspect.specs.declared.pattern.Pattern.{Pattern}
+use Rattle.mp4_show.specs.declared.look.Look.{Look}
 use Rattle.mp4_shown.specs.Event.{Event}
 use Rattle.mp4_shown.specs.declared.view.View.{View}
 use Rattle.mp4_walk.specs.FileBoxes.{boxes_of}
 
--- The texts of the trees are written. A fault is found if and only if one of the boxes has one.
+-- The texts of the trees are written in this look. A fault is found if and only if one of the boxes has one.
 pub record WritesTrees {A : Type 0} (known : BoxType → Bool) (reading : BoxType → List ℕ → ℕ → ℕ → Reading A)
-    (pattern : Pattern) (file : List ℕ) (old new : Option (List ℕ)) (found : Got) : Type 0 where
+    (shown : View → A → List Event) (look : Look) (pattern : Pattern) (file : List ℕ) (old new : Option (List ℕ))
+    (found : Got) : Type 0 where
   pub faulty : Bool
-  pub writes : WritesBoxes known reading file (trees_at pattern (boxes_of file)) old new faulty
+  pub writes : WritesBoxes known reading shown look file (trees_at pattern (boxes_of file)) old new faulty
   pub is_found : found ≡ got_of (has_box pattern file) faulty
 
 -- The JSON of the trees is written, as that of a file which has only these.

@@ -229,7 +229,7 @@ fn write_text<B: Shown, S: Source, W: Write>(
 ) -> Result<Got, Failure>
     ensures trees { IfSome (S.all source)
         (λ file. IfOk result
-        (WritesTrees B.known B.named_reading pattern.now file (W.contents output.old.inner)
+        (WritesTrees B.known B.named_reading B.shown look pattern.now file (W.contents output.old.inner)
         (W.contents output.new.inner))) }
 {
     let (mut walk, boxes, tracks) = list_file(alloc, source)?;
@@ -416,7 +416,7 @@ pub fn get_boxes<B: Shown, S: Source, W: Write>(
     ensures tree { get.now.form ≡ GetForm.Tree
         → IfSome (S.all source)
         (λ file. IfOk result
-        (WritesTrees B.known B.named_reading get.now.pattern file (W.contents output.old.inner)
+        (WritesTrees B.known B.named_reading B.shown look get.now.pattern file (W.contents output.old.inner)
         (W.contents output.new.inner))) }
     ensures json { get.now.form ≡ GetForm.Json
         → IfSome (S.all source)

@@ -94,12 +94,12 @@ fn show_boxes<B: Shown, S: Source, W: Write>(
     ensures texts { IfSome tree.old.bytes
         (λ bytes. boxes.now ≡ boxes_of bytes
         → IfOk result (λ faulty.
-        WritesFile B.known B.named_reading heading.now bytes
+        WritesFile B.known B.named_reading B.shown look heading.now bytes
         (W.contents output.old.inner) (W.contents output.new.inner) faulty)) }
     ensures beginning { OnErr result
         (IfSome tree.old.bytes
         (λ bytes. boxes.now ≡ boxes_of bytes
-        → BeginsFile B.known B.named_reading heading.now bytes
+        → BeginsFile B.known B.named_reading B.shown look heading.now bytes
         (W.contents output.old.inner) (W.contents output.new.inner))) }
     ensures failed { output.new.failed ≡ (output.old.failed || is_write result) }
 {
@@ -118,11 +118,11 @@ fn show_tree<B: Shown, S: Source, W: Write>(
 ) -> Result<bool, Failure>
     ensures texts { IfSome (S.all source)
         (λ bytes. IfOk result
-        (λ faulty. WritesFile B.known B.named_reading heading.now bytes
+        (λ faulty. WritesFile B.known B.named_reading B.shown look heading.now bytes
         (W.contents output.old.inner) (W.contents output.new.inner) faulty)) }
     ensures beginning { OnErr result
         (IfSome (S.all source)
-        (λ bytes. BeginsFile B.known B.named_reading heading.now bytes
+        (λ bytes. BeginsFile B.known B.named_reading B.shown look heading.now bytes
         (W.contents output.old.inner) (W.contents output.new.inner))) }
     ensures failed { output.new.failed ≡ (output.old.failed || is_write result) }
 {
@@ -337,12 +337,12 @@ pub fn inspect<B: Shown, S: Source, W: Write>(
     ensures tree { show.task ≡ Task.Tree
         → IfSome (S.all source)
         (λ bytes. IfOk result
-        (λ faulty. WritesFile B.known B.named_reading (heading_of show name.now) bytes (W.contents output.old.inner)
-        (W.contents output.new.inner) faulty)) }
+        (λ faulty. WritesFile B.known B.named_reading B.shown show.look (heading_of show name.now) bytes
+        (W.contents output.old.inner) (W.contents output.new.inner) faulty)) }
     ensures beginning { show.task ≡ Task.Tree
         → OnErr result (IfSome (S.all source)
-        (λ bytes. BeginsFile B.known B.named_reading (heading_of show name.now) bytes (W.contents output.old.inner)
-        (W.contents output.new.inner))) }
+        (λ bytes. BeginsFile B.known B.named_reading B.shown show.look (heading_of show name.now) bytes
+        (W.contents output.old.inner) (W.contents output.new.inner))) }
     ensures json { show.task ≡ Task.Json
         → IfSome (S.all source)
         (λ bytes. IfOk result

@@ -2,9 +2,10 @@
 
 ghost use Rattle.std.specs.Prelude.{◌≡◌, ℕ, ◌-◌, ◌+◌, ◌<◌, ◌^◌, min, List, [], ◌∷◌, ◌||◌, codes, IfOk, OnOk};
 ghost use Rattle.json.specs.Token.{Token, key, string};
+ghost use Rattle.mp4_content.specs.FaultText.{IsFaultText};
 ghost use Rattle.mp4_content.specs.Fields.{content_fields, json_view};
 ghost use Rattle.mp4_inspect.specs.Json.{number_member, head_tokens, type_token, fields_tokens, IsRest, end_tokens};
-ghost use Rattle.mp4_inspect.specs.Json.{is_quicktime, levels_end};
+ghost use Rattle.mp4_inspect.specs.Json.{levels_end};
 ghost use Rattle.mp4_inspect.specs.Json.{open_inside, open_after, box_tokens, IsShown, file_tokens, IsJson};
 ghost use Rattle.mp4_shown.specs.Event.{shown_of};
 ghost use Rattle.mp4_shown.specs.declared.value.Value.{Value};
@@ -62,7 +63,7 @@ fn put_head(found: &TreeBox, sink: &mut JsonSink) -> Result<()>
 
 /// Writes the member with a fault.
 fn put_fault(alloc: Global, found: &TreeBox, fault: &Error, sink: &mut JsonSink) -> Result<()>
-    ensures tokens { OnOk result ((text : List ℕ)
+    ensures tokens { OnOk result ((text : List ℕ) × IsFaultText found.now fault.now text
         × Puts sink.old.out sink.new.out (key (codes "fault") ∷ string text ∷ [])) }
 {
     let text = fault_text(alloc, found, fault)?;
@@ -94,7 +95,7 @@ fn put_rest<B: BoxFields + Drop>(
     content: &Content<B>,
     sink: &mut JsonSink,
 ) -> Result<()>
-    ensures rest { OnOk result ((ts : List Token) × IsRest B.shown (is_quicktime found.now) content.now ts
+    ensures rest { OnOk result ((ts : List Token) × IsRest B.shown found.now content.now ts
         × Puts sink.old.out sink.new.out ts) }
 {
     match content {
@@ -161,7 +162,7 @@ fn put_box<B: BoxFields + Drop>(
     sink: &mut JsonSink,
 ) -> Result<()>
     requires { begun.old < 2 ^ 64 - 1 }
-    ensures tokens { OnOk result ((rest : List Token) × IsRest B.shown (is_quicktime found.now) content.now rest
+    ensures tokens { OnOk result ((rest : List Token) × IsRest B.shown found.now content.now rest
         × Puts sink.old.out sink.new.out (box_tokens begun.old found.now rest)) }
     ensures begun { OnOk result (begun.new ≡ open_after begun.old found.now) }
 {

@@ -13,7 +13,8 @@ returns g c =
     let found : c.got_of.result ≡ got_of (not (length shown == 0)) faulty = search rules in
     record {
       trees =
-          trees_written g.B.Shown.known g.B.Shown.named_reading c.args.pattern.now (g.S.Source.all c.args.source)
+          trees_written g.B.Shown.known g.B.Shown.named_reading c.args.pattern.now g.B.BoxFields.shown c.args.look
+          (g.S.Source.all c.args.source)
           c.in_ok-walk.walk.bytes c.in_ok-walk.boxes.items shown
           (g.W.Write.contents c.args.output.now.inner) (g.W.Write.contents c.write_tree.new.output.inner) faulty
           c.got_of.result c.in_ok-walk.ensures.bytes c.in_ok-walk.ensures.boxes

@@ -10,7 +10,7 @@ use Rattle.mp4_inspect.proofs.tree_text.write_tree.Goals as goal
 pub loop-found-init : goal.loop-found-init
 loop-found-init g c = record {
   written = always_known c.args.tree.now.bytes
-      (λ bytes. writes_none g.B.Shown.known g.B.Shown.named_reading bytes
+      (λ bytes. writes_none g.B.Shown.known g.B.Shown.named_reading g.B.BoxFields.shown c.args.look bytes
       (g.W.Write.contents c.args.output.now.inner));
   mark = search rules;
   kept = search rules;
@@ -23,7 +23,8 @@ loop-found-preserved g c = record {
       (both_known c.args.tree.now.bytes c.loop-found.tree.bytes (ap (λ t. t.bytes) c.loop-found.invariant.kept)
       c.loop-found.invariant.written c.in_ok-here.ensures.text
       (λ bytes so_far box.
-      writes_more g.B.Shown.known g.B.Shown.named_reading bytes c.args.boxes.now c.loop-found.found-index _
+      writes_more g.B.Shown.known g.B.Shown.named_reading g.B.BoxFields.shown c.args.look bytes c.args.boxes.now
+      c.loop-found.found-index _
       (g.W.Write.contents c.args.output.now.inner) (g.W.Write.contents c.loop-found.output.inner)
       (g.W.Write.contents c.write_box.new.output.inner) c.loop-found.faulty c.in_ok-here.here
       (search rules) so_far box));
@@ -38,7 +39,8 @@ returns-in_err-here-clause-beginning g c =
     (both_known c.args.tree.now.bytes c.loop-found.tree.bytes (ap (λ t. t.bytes) c.loop-found.invariant.kept)
     c.loop-found.invariant.written c.in_err-here.ensures.beginning
     (λ bytes so_far begun.
-    begins_more g.B.Shown.known g.B.Shown.named_reading bytes c.args.boxes.now c.loop-found.found-index _
+    begins_more g.B.Shown.known g.B.Shown.named_reading g.B.BoxFields.shown c.args.look bytes c.args.boxes.now
+    c.loop-found.found-index _
     (g.W.Write.contents c.args.output.now.inner) (g.W.Write.contents c.loop-found.output.inner)
     (g.W.Write.contents c.write_box.new.output.inner) c.loop-found.faulty
     (search rules) so_far begun))
@@ -49,6 +51,6 @@ returns-clause-texts g c =
     take_all c.loop-found.found-index c.args.boxes.now c.loop-found-test.false in
     subst (λ (xs : List TreeBox).
     IfSome c.args.tree.now.bytes
-    (λ bytes. WritesBoxes g.B.Shown.known g.B.Shown.named_reading bytes xs
+    (λ bytes. WritesBoxes g.B.Shown.known g.B.Shown.named_reading g.B.BoxFields.shown c.args.look bytes xs
     (g.W.Write.contents c.args.output.now.inner) (g.W.Write.contents c.loop-found.output.inner)
     c.loop-found.faulty)) all c.loop-found.invariant.written
