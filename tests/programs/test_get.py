@@ -103,6 +103,9 @@ WRONG = {
 HEADER = "version: 0, flags: 0x000000, creation_time: 0, modification_time: 0, timescale: 48000, duration: 0, "
 # A `trak` with two edits: 5000 units starting at 64, and an empty one (ISO/IEC 14496-12, 8.6.6).
 ELST = bytes.fromhex("00000028 656c7374 00000000 00000002 00001388 00000040 00010000 00000007 ffffffff 00010000")
+# An `hdlr` whose name has an escape character, and a `colr` of BT.709 (8.4.3 and 12.1.5).
+HDLR = bytes.fromhex("00000024 68646c72 00000000 00000000 76696465 00000000 00000000 00000000 611b6200")
+COLR = bytes.fromhex("00000013 636f6c72 6e636c78 0001 0001 0001 00")
 
 
 class Get(unittest.TestCase):
@@ -160,11 +163,30 @@ class Get(unittest.TestCase):
                               ("entries[1].segment_duration", "7\n")):
             self.assertEqual(self.bytes_of("--field=" + field, "elst", data=ELST).decode(), wanted, field)
 
+    def test_field_by_its_whole_path(self):
+        """A code in a list, a number after a plus or zeros, a meaning, and a text that a terminal would obey."""
+        for data, path, field, wanted in (
+                (FTYP[:3] + b"\x18" + FTYP[4:] + b"isomavc1", "ftyp", "compatible_brands[1]", "avc1\n"),
+                (ELST, "elst", "entries[+1].media_time", "-1\n"), (ELST, "elst", "entries[001].media_time", "-1\n"),
+                (COLR, "colr", "colour_primaries", "1\n"), (COLR, "colr", "colour_primaries_name", "BT.709\n"),
+                (HDLR, "hdlr", "handler_type", "vide\n"), (HDLR, "hdlr", "name", "a\\u{1b}b\n")):
+            self.assertEqual(self.bytes_of("--field=" + field, path, data=data).decode(), wanted, field)
+
+    def test_field_beside_a_fault(self):
+        """A box with a fault has no fields. The others have theirs."""
+        cut = bytes.fromhex("0000000c 6d646864 00000000")
+        data = bytes.fromhex("00000054 6d646961") + mdhd(600) + cut + mdhd(48000)
+        self.assertEqual(self.bytes_of("--field=timescale", "mdia/mdhd[*]", data=data), b"600\n48000\n")
+        said = "mp4inspect: -: mdia/mdhd[1] has no single value timescale\n"
+        self.runs.ends(("get", "--field=timescale", "-", "mdia/mdhd[1]"), 1, "", said, input=data)
+
     def test_field_that_is_missing(self):
         for field in ("tempo", "timescale[0]", "timescale.x", "entries", "", ".", "timescale.", "[0]"):
             said = f"mp4inspect: -: moov/trak/mdia/mdhd has no single value {field}\n"
             self.runs.ends(("get", "--field=" + field, "-", "moov/trak/mdia/mdhd"), 1, "", said, input=FILE)
-        for field in ("entries", "entries[2].media_time", "entries[0]", "entries[0", "entries0]"):
+        for field in ("entries", "entries[2].media_time", "entries[0]", "entries[0", "entries0]",
+                      "entries[-1].media_time", "entries[18446744073709551616].media_time", "entries[].media_time",
+                      "entry[0].media_time"):
             said = f"mp4inspect: -: elst has no single value {field}\n"
             self.runs.ends(("get", "--field=" + field, "-", "elst"), 1, "", said, input=ELST)
 

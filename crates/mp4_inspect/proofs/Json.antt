@@ -15,7 +15,7 @@ use Rattle.std.specs.List.{fold}
 use Rattle.json.specs.Token.{Token}
 use Rattle.json.specs.Written.{Written}
 use Rattle.mp4_inspect.specs.Json.{number_member, type_token, head_tokens, fields_tokens, IsRest, end_tokens}
-use Rattle.mp4_inspect.specs.Json.{levels_end}
+use Rattle.mp4_inspect.specs.Json.{levels_end, object_tokens}
 use Rattle.mp4_inspect.specs.Json.{box_tokens, open_inside, open_after, IsShown, AreBoxes, file_tokens, IsJson, comma}
 use Rattle.mp4_inspect.specs.Json.{WritesJson}
 use Rattle.std.proofs.Math.Bool.{or_assoc, or-false}
@@ -58,14 +58,16 @@ puts_events a b es handed =
     (ap (λ (t : List ℕ × List Token). t.0) all, ap (λ (t : List ℕ × List Token). t.1) all)
 
 -- the fields of a box, in an object
-pub puts_fields : (es : List Event) (a b c d e : Written) → Puts a b (Token.key (codes "fields") ∷ [])
-    → Puts b c (Token.begin_object ∷ []) → (d.before, d.tokens) ≡ fold then_event (c.before, c.tokens) es
-    → Puts d e (Token.end_object ∷ []) → Puts a e (fields_tokens es)
-puts_fields es a b c d e named begun handed ended =
-    puts_more a b e (Token.key (codes "fields") ∷ []) (Token.begin_object ∷ (all_tokens es ++ Token.end_object ∷ []))
-    named
-    (puts_more b c e (Token.begin_object ∷ []) (all_tokens es ++ Token.end_object ∷ []) begun
-    (puts_more c d e (all_tokens es) (Token.end_object ∷ []) (puts_events c d es handed) ended))
+pub puts_object : (es : List Event) (a b c d : Written) → Puts a b (Token.begin_object ∷ [])
+    → (c.before, c.tokens) ≡ fold then_event (b.before, b.tokens) es → Puts c d (Token.end_object ∷ [])
+    → Puts a d (object_tokens es)
+puts_object es a b c d begun handed ended =
+    puts_more a b d (Token.begin_object ∷ []) (all_tokens es ++ Token.end_object ∷ []) begun
+    (puts_more b c d (all_tokens es) (Token.end_object ∷ []) (puts_events b c es handed) ended)
+
+pub puts_fields : (es : List Event) (a b c : Written) → Puts a b (Token.key (codes "fields") ∷ [])
+    → Puts b c (object_tokens es) → Puts a c (fields_tokens es)
+puts_fields es a b c named put = puts_more a b c (Token.key (codes "fields") ∷ []) (object_tokens es) named put
 
 -- one more level ends
 levels_more : (n : ℕ) → levels_end n ++ Token.end_array ∷ Token.end_object ∷ [] ≡ levels_end (suc n)

@@ -41,9 +41,13 @@ head_tokens found =
     ∷ (number_member (codes "position") found.position
     ++ (number_member (codes "length") found.length ++ number_member (codes "header") found.header_length))
 
--- the fields of a box with these events: their members, in an object
+-- the object of the fields of a box with these events: their members
+abbrev pub object_tokens : List Event → List Token
+object_tokens es = Token.begin_object ∷ (all_tokens es ++ Token.end_object ∷ [])
+
+-- the member with this object
 abbrev pub fields_tokens : List Event → List Token
-fields_tokens es = Token.key (codes "fields") ∷ Token.begin_object ∷ (all_tokens es ++ Token.end_object ∷ [])
+fields_tokens es = Token.key (codes "fields") ∷ object_tokens es
 
 -- the box is in the sample descriptions of a QuickTime file
 abbrev pub is_quicktime : TreeBox → Bool

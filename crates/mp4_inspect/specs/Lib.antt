@@ -2,7 +2,11 @@ pub mod BytesDiffer
 pub mod Checked
 pub mod Colors
 pub mod Differences
+pub mod Field
+pub mod FieldLines
+pub mod Fields
 pub mod Heading
+pub mod InTurn
 pub mod Info
 pub mod Json
 pub mod Listed

@@ -1,25 +1,25 @@
 //! The boxes at a pattern of paths, and one of their fields.
 
-ghost use Rattle.std.specs.Prelude.{◌≡◌, ◌+◌, ◌-◌, ◌<◌, ◌^◌, ℕ, List, true, false, length, min};
-ghost use Rattle.std.specs.Prelude.{flat_map, IfOk, OnOk, IfSome, if◌then◌else◌};
+ghost use Rattle.std.specs.Prelude.{◌≡◌, ◌+◌, ◌-◌, ◌<◌, ◌^◌, ℕ, ◌||◌, List, true, false, length, min};
+ghost use Rattle.std.specs.Prelude.{flat_map, IfOk, OnOk, IfSome, if◌then◌else◌, string_bytes};
 ghost use Rattle.std.specs.Io.KnownBytes.{Appends};
+ghost use Rattle.mp4_inspect.specs.Fields.{WritesFields, field_got};
 ghost use Rattle.mp4_inspect.specs.Patterns.{bytes_at, bytes_of_box, got_of, has_box};
 ghost use Rattle.mp4_inspect.specs.Json.{IsJson};
 ghost use Rattle.mp4_inspect.specs.Trees.{WritesTrees, WritesTreesJson};
+ghost use Rattle.mp4_io.specs.Ends.{is_write};
 ghost use Rattle.mp4_walk.specs.FileBoxes.{boxes_of};
 ghost use Rattle.mp4_walk.specs.Source.{piece};
 
 use crate::chosen::{boxes_at, trees_at};
+use crate::field_lines::write_lines;
 use crate::pattern::Pattern;
 use crate::program::list_file;
 use crate::tree_json::tree_json;
 use crate::tree_text::write_tree;
-use json::{Error, Scratch, Value};
-use mp4_command::escaped;
-use mp4_content::{Content, Shown, content_of, or_memory, put_content};
+use mp4_content::{Shown, or_memory};
 use mp4_io::{Failure, Output, or_read, write_all};
-use mp4_show::{Look, json_text};
-use mp4_shown_json::JsonSink;
+use mp4_show::Look;
 use mp4_walk::{BoxWalk, Source, TreeBox};
 use std::alloc::Global;
 use std::io::Write;
@@ -242,6 +242,7 @@ fn write_text<B: Shown, S: Source, W: Write>(
 fn listed<S: Source>(alloc: Global, source: S) -> Result<(BoxWalk<S>, Vec<TreeBox>), Failure>
     ensures bytes { IfOk result (λ file. file.0.bytes ≡ S.all source) }
     ensures boxes { IfSome (S.all source) (λ bytes. IfOk result (λ file. file.1.items ≡ boxes_of bytes)) }
+    ensures not_write { is_write result ≡ false }
 {
     let mut walk = or_read(BoxWalk::new(alloc, source))?;
     let boxes = or_read(walk.rest(alloc))?;
@@ -284,119 +285,41 @@ fn write_json<B: Shown, S: Source, W: Write>(
     Ok(got_of(!shown.is_empty(), faulty))
 }
 
-/// Returns the fields of a box as a JSON object.
-fn fields_of<B: Shown>(
-    alloc: Global,
-    content: &Content<B>,
-    is_quicktime: bool,
-) -> mp4_show::Result<Vec<u8>> {
-    let mut sink = JsonSink::new(alloc);
-    sink.out.begin_object()?;
-    put_content(content, is_quicktime, &mut sink)?;
-    sink.out.end_object()?;
-    json_text(alloc, sink)
-}
-
-/// Returns the entry of `value` whose number `text` has, with a bracket after it.
-fn entry_at<'v, 'a>(value: &'v Value<'a>, text: &str) -> Option<&'v Value<'a>> {
-    let number = text.strip_suffix(']')?;
-    value.at(number.parse::<usize>().ok()?)
-}
-
-/// Returns the member of `value` that `text` names, or the entry of it: a name, and numbers in brackets after it.
-fn member_at<'v, 'a>(value: &'v Value<'a>, text: &str) -> Option<&'v Value<'a>> {
-    let mut pieces = text.split('[');
-    let mut here = value.get(pieces.next()?)?;
-    for piece in pieces {
-        here = entry_at(here, piece)?;
-    }
-    Some(here)
-}
-
-/// Returns the value of the field `field` in the object `fields`: the names of fields and members, separated by points.
-/// A number in brackets after a name is that of an entry, starting at 0.
-fn value_at<'v, 'a>(fields: &'v Value<'a>, field: &str) -> Option<&'v Value<'a>> {
-    let mut pieces = field.split('.');
-    let mut here = member_at(fields, pieces.next()?)?;
-    for piece in pieces {
-        here = member_at(here, piece)?;
-    }
-    Some(here)
-}
-
-/// Returns the line with a value, or `None` if it is a list or has members.
-fn line_of(alloc: Global, value: &Value<'_>) -> mp4_show::Result<Option<String>> {
-    let text = match value.as_str() {
-        Some(text) => text,
-        None => match value.as_number() {
-            Some(number) => number,
-            None => return Ok(None),
-        },
-    };
-    let mut line = escaped(alloc, text)?;
-    line.push('\n')?;
-    Ok(Some(line))
-}
-
-/// Returns the line with the value of the field `field` in the JSON object `fields`, or `None` if it has no such field,
-/// or one that is not a single value.
-fn field_line(alloc: Global, fields: &[u8], field: &str) -> Result<Option<String>, Failure> {
-    let mut scratch = Scratch::new(alloc);
-    match Value::from_slice(alloc, fields, &mut scratch) {
-        Ok(object) => match value_at(&object, field) {
-            Some(value) => Ok(line_of(alloc, value)?),
-            None => Ok(None),
-        },
-        Err(Error::OutOfMemory) => Err(Failure::Memory),
-        Err(_) => Ok(None),
+/// Returns what was found, from whether there is a box and whether one has the field.
+fn field_got(any: bool, has_field: bool) -> Got
+    ensures { result ≡ field_got any has_field }
+{
+    if has_field {
+        Got::Sound
+    } else if any {
+        Got::NoField
+    } else {
+        Got::Nowhere
     }
 }
 
-/// Writes the value of the field `field` of the box `found`. Returns whether it has one.
-fn write_field<B: Shown, S: Source, W: Write>(
-    alloc: Global,
-    walk: &mut BoxWalk<S>,
-    found: &TreeBox,
-    field: &str,
-    output: &mut Output<W>,
-) -> Result<bool, Failure> {
-    let content = content_of::<B, S>(alloc, walk, found)?;
-    let is_quicktime = found.context.stsd_version == 0;
-    let fields = or_memory(fields_of(alloc, &content, is_quicktime))?;
-    match field_line(alloc, &fields, field)? {
-        Some(line) => {
-            write_all(output, line.as_bytes())?;
-            Ok(true)
-        }
-        None => Ok(false),
-    }
-}
-
-/// Writes the value of the field `field` of each of the boxes at `pattern` that has it, a line each.
+/// Writes the value of the field `field` of each of the boxes at `pattern` that has it, a line each. After a failed
+/// write a beginning of the lines is written, and after another failure the whole lines of the first boxes.
 fn write_fields<B: Shown, S: Source, W: Write>(
     alloc: Global,
     source: S,
     pattern: &Pattern,
     field: &str,
     output: &mut Output<W>,
-) -> Result<Got, Failure> {
-    let mut walk = or_read(BoxWalk::new(alloc, source))?;
-    let boxes = or_read(walk.rest(alloc))?;
+) -> Result<Got, Failure>
+    ensures field { IfSome (S.all source)
+        (λ file. WritesFields B.known B.named_reading B.shown field.now pattern.now file
+        (W.contents output.old.inner) (W.contents output.new.inner) result) }
+    ensures failed { output.new.failed ≡ (output.old.failed || is_write result) }
+{
+    let (mut walk, boxes) = listed(alloc, source)?;
     let chosen = or_memory(boxes_at(alloc, &boxes, pattern))?;
-    let mut got = if chosen.is_empty() {
-        Got::Nowhere
-    } else {
-        Got::NoField
-    };
-    for found in &chosen {
-        if write_field::<B, S, W>(alloc, &mut walk, found, field, output)? {
-            got = Got::Sound;
-        }
-    }
-    Ok(got)
+    let has_field = write_lines::<B, S, W>(alloc, &mut walk, &chosen, field, output)?;
+    Ok(field_got(!chosen.is_empty(), has_field))
 }
 
-/// Writes what `get` asks for. Returns what was found.
+/// Writes what `get` asks for. Returns what was found. Of the lines of a field, a beginning is written after a failed
+/// write, and whole lines of the first boxes after another failure.
 pub fn get_boxes<B: Shown, S: Source, W: Write>(
     alloc: Global,
     name: &str,
@@ -423,6 +346,12 @@ pub fn get_boxes<B: Shown, S: Source, W: Write>(
         (λ file. IfOk result
         (WritesTreesJson B.known B.named_reading B.shown get.now.pattern name.now file (W.contents output.old.inner)
         (W.contents output.new.inner))) }
+    ensures field { get.now.form ≡ GetForm.Field
+        → IfSome (S.all source)
+        (λ file. WritesFields B.known B.named_reading B.shown (string_bytes get.now.field) get.now.pattern file
+        (W.contents output.old.inner) (W.contents output.new.inner) result) }
+    ensures failed { get.now.form ≡ GetForm.Field
+        → output.new.failed ≡ (output.old.failed || is_write result) }
 {
     match get.form {
         GetForm::Tree => write_text::<B, S, W>(alloc, source, &get.pattern, look, output),

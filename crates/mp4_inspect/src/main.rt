@@ -11,6 +11,8 @@ mod change_text;
 mod chosen;
 mod diff;
 mod differences;
+mod field;
+mod field_lines;
 mod get;
 mod messages;
 mod outcome;

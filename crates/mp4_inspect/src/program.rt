@@ -348,6 +348,14 @@ pub fn inspect<B: Shown, S: Source, W: Write>(
         (λ bytes. IfOk result
         (λ faulty. WritesJson B.known B.named_reading B.shown bytes name.now show.follows (W.contents output.old.inner)
         (W.contents output.new.inner) faulty)) }
+    ensures info { show.task ≡ Task.Info
+        → IfSome (S.all source)
+        (λ bytes. IfOk result (WritesInfo ⟦<InfoBoxes as ReadsInfo>⟧.readings bytes
+        (W.contents output.old.inner) (W.contents output.new.inner))) }
+    ensures info_json { show.task ≡ Task.InfoJson
+        → IfSome (S.all source)
+        (λ bytes. IfOk result (WritesInfoJson ⟦<InfoBoxes as ReadsInfo>⟧.readings bytes name.now show.follows
+        (W.contents output.old.inner) (W.contents output.new.inner))) }
     ensures samples { show.task ≡ Task.Samples
         → IfSome (S.all source)
         (λ bytes. IfOk result

@@ -7,6 +7,7 @@ ghost use Rattle.mp4_content.specs.Fields.{content_fields, json_view};
 ghost use Rattle.mp4_inspect.specs.Json.{number_member, head_tokens, type_token, fields_tokens, IsRest, end_tokens};
 ghost use Rattle.mp4_inspect.specs.Json.{levels_end};
 ghost use Rattle.mp4_inspect.specs.Json.{open_inside, open_after, box_tokens, IsShown, file_tokens, IsJson};
+ghost use Rattle.mp4_inspect.specs.Json.{object_tokens};
 ghost use Rattle.mp4_shown.specs.Event.{shown_of};
 ghost use Rattle.mp4_shown.specs.declared.value.Value.{Value};
 ghost use Rattle.mp4_shown_json.specs.Tokens.{Puts};
@@ -72,6 +73,21 @@ fn put_fault(alloc: Global, found: &TreeBox, fault: &Error, sink: &mut JsonSink)
     Ok(())
 }
 
+/// Writes the fields that were read as an object.
+pub fn put_object<B: BoxFields + Drop>(
+    content: &Content<B>,
+    is_quicktime: bool,
+    sink: &mut JsonSink,
+) -> Result<()>
+    ensures fields { OnOk result ((rate : Value) × Puts sink.old.out sink.new.out
+        (object_tokens (content_fields (B.shown json_view) is_quicktime content.now (shown_of rate)))) }
+{
+    sink.out.begin_object()?;
+    put_content(content, is_quicktime, sink)?;
+    sink.out.end_object()?;
+    Ok(())
+}
+
 /// Writes the member with the fields that were read.
 fn put_all_fields<B: BoxFields + Drop>(
     content: &Content<B>,
@@ -82,9 +98,7 @@ fn put_all_fields<B: BoxFields + Drop>(
         (fields_tokens (content_fields (B.shown json_view) is_quicktime content.now (shown_of rate)))) }
 {
     sink.out.key("fields")?;
-    sink.out.begin_object()?;
-    put_content(content, is_quicktime, sink)?;
-    sink.out.end_object()?;
+    put_object(content, is_quicktime, sink)?;
     Ok(())
 }
 

@@ -5,15 +5,13 @@ use Rattle.mp4_shown.specs.Event.{shown_of}
 
 pub returns : goal.returns
 returns g c =
-    let (rate, handed) = c.in_ok-put_content.ensures.fields in
+    let (rate, put) = c.in_ok-put_object.ensures.fields in
     record {
       fields = (
         rate,
         puts_fields
             (content_fields (g.B.BoxFields.shown json_view) c.args.is_quicktime c.args.content.now (shown_of rate))
-            c.args.sink.now.out c.key.new.self c.begin_object.new.self c.put_content.new.sink.out
-            c.end_object.new.self (c.in_ok-key.ensures.room.0, c.in_ok-key.ensures.ok)
-            (c.in_ok-begin_object.ensures.room.0, c.in_ok-begin_object.ensures.ok) handed
-            (c.in_ok-end_object.ensures.room.0, c.in_ok-end_object.ensures.ok),
+            c.args.sink.now.out c.key.new.self c.put_object.new.sink.out
+            (c.in_ok-key.ensures.room.0, c.in_ok-key.ensures.ok) put,
       );
     }
