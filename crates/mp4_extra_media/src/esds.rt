@@ -463,7 +463,7 @@ const CONFIG: &<ConfigShown as NamedShape>::Names = &(
     ),
 );
 
-/// The descriptors are shown among those of the stream, since a list has lines of its own.
+/// The descriptors are shown beside those of the stream, since each entry of a list has its line.
 impl HasFields for DecoderConfig {
     ghost shown = { λ view d. ⟦<ConfigShown as NamedShape>⟧.shown CONFIG.now view (
       d.size_bytes,
@@ -707,7 +707,7 @@ type EsParts = (
     Last<EachToEnd<Descriptor>>,
 );
 
-/// The parts of an elementary stream descriptor after its size. It is a type of its own to keep proofs short.
+/// The parts of an elementary stream descriptor after its size. A separate type keeps proofs short.
 pub struct EsContent;
 
 impl Shape for EsContent {

@@ -194,8 +194,8 @@ impl HasFields for StyleRecord {
 pub struct Tx3g {
     /// The number of the data reference that holds the samples, starting at 1.
     pub data_reference_index: u16,
-    /// How the text moves and is laid out, a flag for each (`displayFlags`). Two flags are one number: the direction of
-    /// scrolling, of the bits 0x180.
+    /// The flags for the movement and the layout of the text (`displayFlags`). The bits 0x180 are one number, the
+    /// direction of scrolling.
     pub display_flags: u32,
     /// 0 for text on the left, 1 in the centre, -1 on the right (`horizontal-justification`).
     pub horizontal_justification: i8,

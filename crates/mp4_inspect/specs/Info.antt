@@ -1,4 +1,4 @@
--- What `info` writes of a file.
+-- The output of `info` for a file.
 use Rattle.std.specs.Prelude.{◌≡◌, ℕ, ◌++◌, not, Bool, List}
 use Rattle.std.specs.declared.option.Option.{Option}
 use Rattle.std.specs.Io.KnownBytes.{Appends}

@@ -5,7 +5,7 @@ use Rattle.std.specs.Prelude.{◌==◌, bit_and, codes}
 use Rattle.mp4_show.specs.Texts.{before_flag, flag_names}
 use Rattle.mp4_shown.specs.Event.{Meaning}
 
--- the names from a flag on, by whether it is set
+-- the names of a flag and of those after it, by whether it is set
 abbrev by_test : Bool → Bool → ℕ → Meaning → List Meaning → List ℕ
 by_test clear first flags m ms =
     cond clear (flag_names first flags ms) (before_flag first ++ (m.1.now ++ flag_names false flags ms))

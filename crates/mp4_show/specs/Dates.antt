@@ -15,13 +15,13 @@ days_in_month year month =
     if month == 2 then (if is_leap year then 29 else 28) else
     if (month == 4) || (month == 6) || (month == 9) || (month == 11) then 30 else 31
 
--- the year and the place in it, from 0, of the day that is so many days after the start of `year`; at most k years pass
+-- the year, and the place in it from 0, of the day that is `day` days after the start of `year`; at most k years pass
 unfoldable pub year_from : ℕ → ℕ → ℕ → ℕ × ℕ
 year_from zero year day = (year, day)
 year_from (suc k) year day =
     if nat_lt day (days_in_year year) then (year, day) else year_from k (year + 1) (day - days_in_year year)
 
--- the month and the place in it, from 0, of the day that is so many days after the start of `month`
+-- the month, and the place in it from 0, of the day that is `day` days after the start of `month`
 unfoldable pub month_from : ℕ → ℕ → ℕ → ℕ → ℕ × ℕ
 month_from zero year month day = (month, day)
 month_from (suc k) year month day =
@@ -55,7 +55,7 @@ dated n =
     day_text (n / 86_400)
     ++ (codes "T" ++ (time_text (n % 86_400) ++ (codes "Z (" ++ (decimal n ++ codes ")"))))
 
--- a number alone has no date: 0, and those from 9999-12-31 on
+-- 0 and the numbers of 9999-12-31 and later have no date
 abbrev pub has_date : ℕ → Bool
 has_date n = nat_lt 0 n && nat_lt n 255_485_059_200
 

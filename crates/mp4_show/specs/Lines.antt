@@ -9,8 +9,8 @@ use Rattle.mp4_show.specs.declared.text_sink.Before.TheVariants as places
 use Rattle.mp4_show.specs.declared.text_sink.OpenList.{OpenList}
 use Rattle.mp4_show.specs.declared.text_sink.TextSink.{TextSink}
 
--- What matters of a sink: its text, the column in which its last line ends, how far in the lines of the box are, what
--- comes before the next piece, the open lists, the outermost first, and the look.
+-- The state of a sink: its text, the column in which its last line ends, the indentation of the lines of the box, the
+-- separator before the next piece, the open lists, the outermost first, and the look.
 pub record TextState : Type 0 where
   pub text : List ℕ
   pub column : ℕ
@@ -29,7 +29,7 @@ state_of sink = record {
   look = sink.look;
 }
 
--- no text, for a box at this depth, of whose line so many columns are taken
+-- no text, for a box at this depth, of whose line `column` columns are taken
 abbrev pub begun : Look → ℕ → ℕ → TextState
 begun look depth column = record {
   text = [];
@@ -48,7 +48,7 @@ fit n = min n (2 ^ 64 - 1)
 abbrev pub wrote : TextState → List ℕ → TextState
 wrote s more = record s { text = s.text ++ more; column = fit (s.column + length (chars more)) }
 
--- a new line, with so many more spaces than the line of the box
+-- a new line, with `further` more spaces than the line of the box
 abbrev pub new_line : TextState → ℕ → TextState
 new_line s further = record s {
   text = s.text ++ (10 ∷ replicate (fit (s.indent + further)) 32);
@@ -80,7 +80,7 @@ separated s size = separated_by s.before s size
 unfoldable pub with_piece : TextState → List ℕ → TextState
 with_piece s piece = record (wrote (separated s (length (chars piece))) piece) { before = places.Comma }
 
--- the next piece comes after a space
+-- the next piece follows a space
 abbrev pub after_space : TextState → TextState
 after_space s = record s { before = places.Space }
 

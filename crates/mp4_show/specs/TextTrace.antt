@@ -34,7 +34,7 @@ abbrev pub rest_told : TextState → OpenList → TextState
 rest_told s list =
     if nat_lt 0 list.shown && nat_lt list.shown list.total then with_more s (list.total - list.shown) else s
 
--- the end of a list: the next piece comes after a comma, or on a new line if entries of it are shown
+-- the end of a list: the next piece follows a comma, or begins a new line if entries of it are shown
 abbrev pub after_list : OpenList → Before
 after_list list = if nat_lt 0 list.shown then places.Line else places.Comma
 

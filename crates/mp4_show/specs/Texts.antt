@@ -56,7 +56,7 @@ colored false color text = text
 colored true color text =
     codes "\u{1b}[" ++ (color ++ (codes "m" ++ (text ++ codes "\u{1b}[0m")))
 
--- a number in hexadecimal digits, as `{:06x}` writes it, or `{:08x}` if it has more than 6
+-- the digits of a hexadecimal number: 6 (`{:06x}`), or 8 (`{:08x}`) if it has more than 6
 abbrev pub least_digits : ℕ → ℕ
 least_digits count = if nat_lt 6 count then 8 else 6
 

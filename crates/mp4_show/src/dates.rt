@@ -146,7 +146,7 @@ fn push_dated(seconds: u64, out: &mut String) -> Result<()>
 }
 
 /// Appends the date that is `seconds` after the start of 1904, and `seconds`. Appends only `seconds` if it is 0, which
-/// stands for no date, or from the last day of 9999 on.
+/// stands for no date, or if the date is the last day of 9999 or later.
 pub(crate) fn push_date(seconds: u64, out: &mut String) -> Result<()>
     ensures text { OnOk result (string_bytes out.new ≡ string_bytes out.old ++ date_shown seconds) }
 {

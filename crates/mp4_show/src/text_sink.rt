@@ -83,7 +83,7 @@ fn push_spaces(count: usize, out: &mut String) -> Result<()>
 }
 
 impl TextSink {
-    /// Creates a sink of no text, for the line of a box at this depth, of which so many columns are taken.
+    /// Creates an empty sink for the line of a box at this depth, of which `column` columns are taken.
     pub fn new(alloc: Global, look: Look, depth: u64, column: usize) -> TextSink
         ensures { state_of result ≡ begun look depth column }
     {
@@ -141,7 +141,7 @@ impl TextSink {
         push_colored(self.look, text, color, &mut self.text)
     }
 
-    /// Appends a comma, ends the line, and begins one that is so much further in than the box's.
+    /// Appends a comma, ends the line, and begins one with `further` more spaces than that of the box.
     fn comma_line(&mut self, further: usize) -> Result<()>
         ensures { OnOk result (state_of self.new ≡ new_line (wrote (state_of self.old) (codes ",")) further) }
     {
