@@ -56,9 +56,9 @@ colored false color text = text
 colored true color text =
     codes "\u{1b}[" ++ (color ++ (codes "m" ++ (text ++ codes "\u{1b}[0m")))
 
--- the digits of a hexadecimal number: 6 (`{:06x}`), or 8 (`{:08x}`) if it has more than 6
+-- the digits of a hexadecimal number: 2 (`{:02x}`), 6 if it has more than 2, and 8 if it has more than 6
 abbrev pub least_digits : ℕ → ℕ
-least_digits count = if nat_lt 6 count then 8 else 6
+least_digits count = if nat_lt 6 count then 8 else if nat_lt 2 count then 6 else 2
 
 abbrev pub hex_shown : ℕ → ℕ → List ℕ
 hex_shown n count =

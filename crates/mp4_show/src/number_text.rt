@@ -83,14 +83,16 @@ pub(crate) fn push_float(decimal: &str, out: &mut String) -> Result<()>
     out.push_str(float_text(decimal))
 }
 
-/// Returns a number in hexadecimal digits, at least 6, or 8 if `digits` is more than 6.
+/// Returns a number in hexadecimal digits: at least 2, 6 if `digits` is more than 2, and 8 if it is more than 6.
 pub(crate) fn hex_text(alloc: Global, number: u64, digits: usize) -> Result<String>
     ensures text { IfOk result (λ text. string_bytes text ≡ hex_shown number digits) }
 {
     if digits > 6 {
         format!(in alloc; "0x{number:08x}")
-    } else {
+    } else if digits > 2 {
         format!(in alloc; "0x{number:06x}")
+    } else {
+        format!(in alloc; "0x{number:02x}")
     }
 }
 
