@@ -29,7 +29,7 @@ NEW = "padb"
 # The box whose lines are copied.
 LIKE = "mfro"
 # The largest number of lists of the crates, besides that of the codes, that a box may need an entry in.
-MOST_LISTS = 12
+MOST_LISTS = 10
 # The largest number of lines of code and definitions that a box of a few numbers may take.
 MOST = 70
 # The function of the slow reader that reads the fields.

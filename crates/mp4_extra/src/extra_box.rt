@@ -9,10 +9,11 @@ ghost use Rattle.mp4_extra.specs.ExtraBox.{declarations, extra_types, known_any,
 ghost use Rattle.mp4_extra.specs.ExtraBoxLaws.{extra_laws};
 ghost use Rattle.mp4_extra.specs.declared.extra_box.ExtraBox.TheVariants as boxes;
 
-use crate::picture_box::{PictureBox, PictureDeclarations};
-use crate::sample_box::{SampleBox, SampleDeclarations};
-use crate::sound_box::{SoundBox, SoundDeclarations};
-use crate::track_box::{TrackBox, TrackDeclarations};
+use crate::declarations::Catalogued;
+use crate::picture_box::PictureBox;
+use crate::sample_box::SampleBox;
+use crate::sound_box::SoundBox;
+use crate::track_box::TrackBox;
 use mp4_compose::CodedEnum;
 use mp4_frame::{BoxEnum, BoxType, BoxVisitor, ByteCursor, Holds, Result, TryClone, clone_as};
 use mp4_shown::{FieldSink, HasFields, View};
@@ -61,9 +62,9 @@ trait ExtraDeclarations {
 }
 
 impl ExtraDeclarations for ExtraBox {
-    ghost declared = { declarations ⟦<PictureBox as PictureDeclarations>⟧.declared
-        ⟦<SoundBox as SoundDeclarations>⟧.declared ⟦<SampleBox as SampleDeclarations>⟧.declared
-        ⟦<TrackBox as TrackDeclarations>⟧.declared };
+    ghost declared = { declarations ⟦<PictureBox as Catalogued>⟧.declared
+        ⟦<SoundBox as Catalogued>⟧.declared ⟦<SampleBox as Catalogued>⟧.declared
+        ⟦<TrackBox as Catalogued>⟧.declared };
 }
 
 /// Returns whether one of the four enums holds boxes with the name `name`.

@@ -38,6 +38,25 @@ macro_rules! by_type {
     };
 }
 
+/// Matches on a value of the enum `$enum` with an arm for each variant, which visits the box inside.
+macro_rules! visit_each {
+    ([$($fields:ident $held:ident $($code:ident)::+),*] $visitor:ident, $enum:ident, $value:expr, $out:expr) => {
+        match $value {
+            $($enum::$held(inside) => visit_held::<$visitor, $fields, $enum>($value, inside, $out),)*
+        }
+    };
+}
+
+/// Matches on a value of the enum `$enum` with an arm for each variant, which shows the box inside.
+macro_rules! show_each {
+    ([$($fields:ident $held:ident $($code:ident)::+),*] $sink_type:ident, $enum:ident, $value:expr, $view:expr,
+        $sink:expr) => {
+        match $value {
+            $($enum::$held(inside) => show_held::<$fields, $enum, $sink_type>($value, inside, $view, $sink),)*
+        }
+    };
+}
+
 /// Prints a value of `$enum` as its variant, with the box inside.
 macro_rules! print_held {
     ([$($fields:ident $held:ident $($code:ident)::+),*] $enum:ident, $value:expr, $f:expr) => {

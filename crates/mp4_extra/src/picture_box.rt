@@ -4,7 +4,7 @@ ghost use Rattle.std.specs.Prelude.{◌≡◌, ◌+◌, ◌-◌, ◌≤◌, OnOk
 ghost use Rattle.std.proofs.Common.{refl};
 ghost use Rattle.mp4_frame.specs.Reading.{Answers};
 ghost use Rattle.mp4_frame.specs.Members.{reading_known, Is};
-ghost use Rattle.mp4_extra.specs.Catalogue.{Declarations, inside, kind_of, kinds, shown, valid_as, whole};
+ghost use Rattle.mp4_extra.specs.Catalogue.{inside, kind_of, kinds, shown, valid_as, whole};
 ghost use Rattle.mp4_extra.specs.CatalogueLaws.{by_code, members, named};
 ghost use Rattle.mp4_extra.specs.PictureBox.{picture_types, picture_of_code};
 ghost use Rattle.mp4_extra.specs.PictureBoxLaws.{picture_laws};
@@ -12,7 +12,9 @@ ghost use Rattle.mp4_extra.specs.declared.picture_box.PictureType.TheVariants as
 ghost use Rattle.mp4_extra.specs.declared.picture_box.PictureBox.TheVariants as boxes;
 
 use super::*;
-use crate::declarations::{Described, print_variant, read_declared, visit_declared};
+use crate::declarations::{
+    Catalogued, Described, print_variant, read_declared, show_held, visit_held,
+};
 use mp4_compose::CodedEnum;
 use mp4_frame::{
     BoxEnum, BoxType, BoxVisitor, ByteCursor, Holds, Result, TryClone, clone_as, codes,
@@ -123,12 +125,11 @@ impl TryClone for PictureBox {
     }
 }
 
-/// For the prover: the declarations of all types.
-pub(crate) trait PictureDeclarations {
-    ghost declared: { Declarations picture_types };
-}
+impl Catalogued for PictureBox {
+    type Of = PictureType;
 
-impl PictureDeclarations for PictureBox {
+    ghost catalogue = { picture_types };
+
     ghost declared = { elim [
       | types.AuxcBox ↦ valid_as ⟦<Auxc as Described>⟧.declaration refl
       | types.Av1cBox ↦ valid_as ⟦<Av1c as Described>⟧.declaration refl
@@ -156,7 +157,7 @@ impl PictureDeclarations for PictureBox {
 fn read_of(of: PictureType, alloc: Global, reader: &mut ByteCursor, size: u64) -> Result<PictureBox>
     requires after_header { 8 ≤ reader.old.position }
     ensures answer { Answers result
-        (reading_known (Is (kind_of picture_types ⟦<PictureBox as PictureDeclarations>⟧.declared of))
+        (reading_known (Is (kind_of picture_types ⟦<PictureBox as Catalogued>⟧.declared of))
         reader.old.bytes.now (reader.old.position - 8) size) }
     ensures moved { OnOk result (reader.new.position ≡ reader.old.position - 8 + max 0 size) }
     ensures kept { OnErr result (reader.new.position ≡ reader.old.position) }
@@ -166,11 +167,11 @@ fn read_of(of: PictureType, alloc: Global, reader: &mut ByteCursor, size: u64) -
 }
 
 impl BoxEnum for PictureBox {
-    ghost kinds = { kinds picture_types ⟦<PictureBox as PictureDeclarations>⟧.declared };
+    ghost kinds = { kinds picture_types ⟦<PictureBox as Catalogued>⟧.declared };
 
-    ghost inside = { inside picture_types ⟦<PictureBox as PictureDeclarations>⟧.declared };
+    ghost inside = { inside picture_types ⟦<PictureBox as Catalogued>⟧.declared };
 
-    ghost members = { members picture_types picture_laws ⟦<PictureBox as PictureDeclarations>⟧.declared };
+    ghost members = { members picture_types picture_laws ⟦<PictureBox as Catalogued>⟧.declared };
 
     fn holds(name: BoxType) -> bool {
         type_of(u32::from(name)).is_some()
@@ -184,25 +185,25 @@ impl BoxEnum for PictureBox {
     }
 
     fn visit<Q: BoxVisitor>(&self, out: &mut [u8]) -> Q::Answer {
-        of_boxes!(each, PictureBox, self, b => visit_declared::<Q, _>(b, out))
+        of_boxes!(visit_each, Q, PictureBox, self, out)
     }
 
-    ghost named = { named picture_types picture_laws ⟦<PictureBox as PictureDeclarations>⟧.declared };
+    ghost named = { named picture_types picture_laws ⟦<PictureBox as Catalogued>⟧.declared };
 }
 
 /// The code identifies the type of a box.
 impl CodedEnum for PictureBox {
-    ghost coded = { by_code picture_types picture_laws ⟦<PictureBox as PictureDeclarations>⟧.declared };
+    ghost coded = { by_code picture_types picture_laws ⟦<PictureBox as Catalogued>⟧.declared };
 }
 
 /// Shows the fields of the box inside.
 impl HasFields for PictureBox {
-    ghost shown = { shown picture_types ⟦<PictureBox as PictureDeclarations>⟧.declared };
+    ghost shown = { shown picture_types ⟦<PictureBox as Catalogued>⟧.declared };
 
-    ghost whole = { whole picture_types ⟦<PictureBox as PictureDeclarations>⟧.declared };
+    ghost whole = { whole picture_types ⟦<PictureBox as Catalogued>⟧.declared };
 
     fn show<K: FieldSink>(&self, view: View, sink: &mut K) -> mp4_shown::Result<()> {
-        of_boxes!(each, PictureBox, self, b => b.show(view, sink))
+        of_boxes!(show_each, K, PictureBox, self, view, sink)
     }
 }
 

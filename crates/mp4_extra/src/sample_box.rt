@@ -4,7 +4,7 @@ ghost use Rattle.std.specs.Prelude.{◌≡◌, ◌+◌, ◌-◌, ◌≤◌, OnOk
 ghost use Rattle.std.proofs.Common.{refl};
 ghost use Rattle.mp4_frame.specs.Reading.{Answers};
 ghost use Rattle.mp4_frame.specs.Members.{reading_known, Is};
-ghost use Rattle.mp4_extra.specs.Catalogue.{Declarations, inside, kind_of, kinds, shown, valid_as, whole};
+ghost use Rattle.mp4_extra.specs.Catalogue.{inside, kind_of, kinds, shown, valid_as, whole};
 ghost use Rattle.mp4_extra.specs.CatalogueLaws.{by_code, members, named};
 ghost use Rattle.mp4_extra.specs.SampleBox.{sample_types, sample_of_code};
 ghost use Rattle.mp4_extra.specs.SampleBoxLaws.{sample_laws};
@@ -12,7 +12,9 @@ ghost use Rattle.mp4_extra.specs.declared.sample_box.SampleType.TheVariants as t
 ghost use Rattle.mp4_extra.specs.declared.sample_box.SampleBox.TheVariants as boxes;
 
 use super::*;
-use crate::declarations::{Described, print_variant, read_declared, visit_declared};
+use crate::declarations::{
+    Catalogued, Described, print_variant, read_declared, show_held, visit_held,
+};
 use mp4_compose::CodedEnum;
 use mp4_frame::{
     BoxEnum, BoxType, BoxVisitor, ByteCursor, Holds, Result, TryClone, clone_as, codes,
@@ -114,12 +116,11 @@ impl TryClone for SampleBox {
     }
 }
 
-/// For the prover: the declarations of all types.
-pub(crate) trait SampleDeclarations {
-    ghost declared: { Declarations sample_types };
-}
+impl Catalogued for SampleBox {
+    type Of = SampleType;
 
-impl SampleDeclarations for SampleBox {
+    ghost catalogue = { sample_types };
+
     ghost declared = { elim [
       | types.CslgBox ↦ valid_as ⟦<Cslg as Described>⟧.declaration refl
       | types.LevaBox ↦ valid_as ⟦<Leva as Described>⟧.declaration refl
@@ -144,7 +145,7 @@ impl SampleDeclarations for SampleBox {
 fn read_of(of: SampleType, alloc: Global, reader: &mut ByteCursor, size: u64) -> Result<SampleBox>
     requires after_header { 8 ≤ reader.old.position }
     ensures answer { Answers result
-        (reading_known (Is (kind_of sample_types ⟦<SampleBox as SampleDeclarations>⟧.declared of))
+        (reading_known (Is (kind_of sample_types ⟦<SampleBox as Catalogued>⟧.declared of))
         reader.old.bytes.now (reader.old.position - 8) size) }
     ensures moved { OnOk result (reader.new.position ≡ reader.old.position - 8 + max 0 size) }
     ensures kept { OnErr result (reader.new.position ≡ reader.old.position) }
@@ -154,11 +155,11 @@ fn read_of(of: SampleType, alloc: Global, reader: &mut ByteCursor, size: u64) ->
 }
 
 impl BoxEnum for SampleBox {
-    ghost kinds = { kinds sample_types ⟦<SampleBox as SampleDeclarations>⟧.declared };
+    ghost kinds = { kinds sample_types ⟦<SampleBox as Catalogued>⟧.declared };
 
-    ghost inside = { inside sample_types ⟦<SampleBox as SampleDeclarations>⟧.declared };
+    ghost inside = { inside sample_types ⟦<SampleBox as Catalogued>⟧.declared };
 
-    ghost members = { members sample_types sample_laws ⟦<SampleBox as SampleDeclarations>⟧.declared };
+    ghost members = { members sample_types sample_laws ⟦<SampleBox as Catalogued>⟧.declared };
 
     fn holds(name: BoxType) -> bool {
         type_of(u32::from(name)).is_some()
@@ -172,25 +173,25 @@ impl BoxEnum for SampleBox {
     }
 
     fn visit<Q: BoxVisitor>(&self, out: &mut [u8]) -> Q::Answer {
-        of_boxes!(each, SampleBox, self, b => visit_declared::<Q, _>(b, out))
+        of_boxes!(visit_each, Q, SampleBox, self, out)
     }
 
-    ghost named = { named sample_types sample_laws ⟦<SampleBox as SampleDeclarations>⟧.declared };
+    ghost named = { named sample_types sample_laws ⟦<SampleBox as Catalogued>⟧.declared };
 }
 
 /// The code identifies the type of a box.
 impl CodedEnum for SampleBox {
-    ghost coded = { by_code sample_types sample_laws ⟦<SampleBox as SampleDeclarations>⟧.declared };
+    ghost coded = { by_code sample_types sample_laws ⟦<SampleBox as Catalogued>⟧.declared };
 }
 
 /// Shows the fields of the box inside.
 impl HasFields for SampleBox {
-    ghost shown = { shown sample_types ⟦<SampleBox as SampleDeclarations>⟧.declared };
+    ghost shown = { shown sample_types ⟦<SampleBox as Catalogued>⟧.declared };
 
-    ghost whole = { whole sample_types ⟦<SampleBox as SampleDeclarations>⟧.declared };
+    ghost whole = { whole sample_types ⟦<SampleBox as Catalogued>⟧.declared };
 
     fn show<K: FieldSink>(&self, view: View, sink: &mut K) -> mp4_shown::Result<()> {
-        of_boxes!(each, SampleBox, self, b => b.show(view, sink))
+        of_boxes!(show_each, K, SampleBox, self, view, sink)
     }
 }
 

@@ -4,7 +4,7 @@ ghost use Rattle.std.specs.Prelude.{◌≡◌, ◌+◌, ◌-◌, ◌≤◌, OnOk
 ghost use Rattle.std.proofs.Common.{refl};
 ghost use Rattle.mp4_frame.specs.Reading.{Answers};
 ghost use Rattle.mp4_frame.specs.Members.{reading_known, Is};
-ghost use Rattle.mp4_extra.specs.Catalogue.{Declarations, inside, kind_of, kinds, shown, valid_as, whole};
+ghost use Rattle.mp4_extra.specs.Catalogue.{inside, kind_of, kinds, shown, valid_as, whole};
 ghost use Rattle.mp4_extra.specs.CatalogueLaws.{by_code, members, named};
 ghost use Rattle.mp4_extra.specs.SoundBox.{sound_types, sound_of_code};
 ghost use Rattle.mp4_extra.specs.SoundBoxLaws.{sound_laws};
@@ -12,7 +12,9 @@ ghost use Rattle.mp4_extra.specs.declared.sound_box.SoundType.TheVariants as typ
 ghost use Rattle.mp4_extra.specs.declared.sound_box.SoundBox.TheVariants as boxes;
 
 use super::*;
-use crate::declarations::{Described, print_variant, read_declared, visit_declared};
+use crate::declarations::{
+    Catalogued, Described, print_variant, read_declared, show_held, visit_held,
+};
 use mp4_compose::CodedEnum;
 use mp4_extra_media::ftab;
 use mp4_frame::{
@@ -124,12 +126,11 @@ impl TryClone for SoundBox {
     }
 }
 
-/// For the prover: the declarations of all types.
-pub(crate) trait SoundDeclarations {
-    ghost declared: { Declarations sound_types };
-}
+impl Catalogued for SoundBox {
+    type Of = SoundType;
 
-impl SoundDeclarations for SoundBox {
+    ghost catalogue = { sound_types };
+
     ghost declared = { elim [
       | types.AlacBox ↦ valid_as ⟦<Alac as Described>⟧.declaration refl
       | types.ChanBox ↦ valid_as ⟦<Chan as Described>⟧.declaration refl
@@ -157,7 +158,7 @@ impl SoundDeclarations for SoundBox {
 fn read_of(of: SoundType, alloc: Global, reader: &mut ByteCursor, size: u64) -> Result<SoundBox>
     requires after_header { 8 ≤ reader.old.position }
     ensures answer { Answers result
-        (reading_known (Is (kind_of sound_types ⟦<SoundBox as SoundDeclarations>⟧.declared of))
+        (reading_known (Is (kind_of sound_types ⟦<SoundBox as Catalogued>⟧.declared of))
         reader.old.bytes.now (reader.old.position - 8) size) }
     ensures moved { OnOk result (reader.new.position ≡ reader.old.position - 8 + max 0 size) }
     ensures kept { OnErr result (reader.new.position ≡ reader.old.position) }
@@ -167,11 +168,11 @@ fn read_of(of: SoundType, alloc: Global, reader: &mut ByteCursor, size: u64) -> 
 }
 
 impl BoxEnum for SoundBox {
-    ghost kinds = { kinds sound_types ⟦<SoundBox as SoundDeclarations>⟧.declared };
+    ghost kinds = { kinds sound_types ⟦<SoundBox as Catalogued>⟧.declared };
 
-    ghost inside = { inside sound_types ⟦<SoundBox as SoundDeclarations>⟧.declared };
+    ghost inside = { inside sound_types ⟦<SoundBox as Catalogued>⟧.declared };
 
-    ghost members = { members sound_types sound_laws ⟦<SoundBox as SoundDeclarations>⟧.declared };
+    ghost members = { members sound_types sound_laws ⟦<SoundBox as Catalogued>⟧.declared };
 
     fn holds(name: BoxType) -> bool {
         type_of(u32::from(name)).is_some()
@@ -185,25 +186,25 @@ impl BoxEnum for SoundBox {
     }
 
     fn visit<Q: BoxVisitor>(&self, out: &mut [u8]) -> Q::Answer {
-        of_boxes!(each, SoundBox, self, b => visit_declared::<Q, _>(b, out))
+        of_boxes!(visit_each, Q, SoundBox, self, out)
     }
 
-    ghost named = { named sound_types sound_laws ⟦<SoundBox as SoundDeclarations>⟧.declared };
+    ghost named = { named sound_types sound_laws ⟦<SoundBox as Catalogued>⟧.declared };
 }
 
 /// The code identifies the type of a box.
 impl CodedEnum for SoundBox {
-    ghost coded = { by_code sound_types sound_laws ⟦<SoundBox as SoundDeclarations>⟧.declared };
+    ghost coded = { by_code sound_types sound_laws ⟦<SoundBox as Catalogued>⟧.declared };
 }
 
 /// Shows the fields of the box inside.
 impl HasFields for SoundBox {
-    ghost shown = { shown sound_types ⟦<SoundBox as SoundDeclarations>⟧.declared };
+    ghost shown = { shown sound_types ⟦<SoundBox as Catalogued>⟧.declared };
 
-    ghost whole = { whole sound_types ⟦<SoundBox as SoundDeclarations>⟧.declared };
+    ghost whole = { whole sound_types ⟦<SoundBox as Catalogued>⟧.declared };
 
     fn show<K: FieldSink>(&self, view: View, sink: &mut K) -> mp4_shown::Result<()> {
-        of_boxes!(each, SoundBox, self, b => b.show(view, sink))
+        of_boxes!(show_each, K, SoundBox, self, view, sink)
     }
 }
 

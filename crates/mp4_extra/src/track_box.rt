@@ -4,7 +4,7 @@ ghost use Rattle.std.specs.Prelude.{◌≡◌, ◌+◌, ◌-◌, ◌≤◌, OnOk
 ghost use Rattle.std.proofs.Common.{refl};
 ghost use Rattle.mp4_frame.specs.Reading.{Answers};
 ghost use Rattle.mp4_frame.specs.Members.{reading_known, Is};
-ghost use Rattle.mp4_extra.specs.Catalogue.{Declarations, inside, kind_of, kinds, shown, valid_as, whole};
+ghost use Rattle.mp4_extra.specs.Catalogue.{inside, kind_of, kinds, shown, valid_as, whole};
 ghost use Rattle.mp4_extra.specs.CatalogueLaws.{by_code, members, named};
 ghost use Rattle.mp4_extra.specs.TrackBox.{track_types, track_of_code};
 ghost use Rattle.mp4_extra.specs.TrackBoxLaws.{track_laws};
@@ -12,7 +12,9 @@ ghost use Rattle.mp4_extra.specs.declared.track_box.TrackType.TheVariants as typ
 ghost use Rattle.mp4_extra.specs.declared.track_box.TrackBox.TheVariants as boxes;
 
 use super::*;
-use crate::declarations::{Described, print_variant, read_declared, visit_declared};
+use crate::declarations::{
+    Catalogued, Described, print_variant, read_declared, show_held, visit_held,
+};
 use mp4_compose::CodedEnum;
 use mp4_frame::{
     BoxEnum, BoxType, BoxVisitor, ByteCursor, Holds, Result, TryClone, clone_as, codes,
@@ -123,12 +125,11 @@ impl TryClone for TrackBox {
     }
 }
 
-/// For the prover: the declarations of all types.
-pub(crate) trait TrackDeclarations {
-    ghost declared: { Declarations track_types };
-}
+impl Catalogued for TrackBox {
+    type Of = TrackType;
 
-impl TrackDeclarations for TrackBox {
+    ghost catalogue = { track_types };
+
     ghost declared = { elim [
       | types.AlisBox ↦ valid_as ⟦<Alis as Described>⟧.declaration refl
       | types.DataBox ↦ valid_as ⟦<Data as Described>⟧.declaration refl
@@ -156,7 +157,7 @@ impl TrackDeclarations for TrackBox {
 fn read_of(of: TrackType, alloc: Global, reader: &mut ByteCursor, size: u64) -> Result<TrackBox>
     requires after_header { 8 ≤ reader.old.position }
     ensures answer { Answers result
-        (reading_known (Is (kind_of track_types ⟦<TrackBox as TrackDeclarations>⟧.declared of))
+        (reading_known (Is (kind_of track_types ⟦<TrackBox as Catalogued>⟧.declared of))
         reader.old.bytes.now (reader.old.position - 8) size) }
     ensures moved { OnOk result (reader.new.position ≡ reader.old.position - 8 + max 0 size) }
     ensures kept { OnErr result (reader.new.position ≡ reader.old.position) }
@@ -166,11 +167,11 @@ fn read_of(of: TrackType, alloc: Global, reader: &mut ByteCursor, size: u64) -> 
 }
 
 impl BoxEnum for TrackBox {
-    ghost kinds = { kinds track_types ⟦<TrackBox as TrackDeclarations>⟧.declared };
+    ghost kinds = { kinds track_types ⟦<TrackBox as Catalogued>⟧.declared };
 
-    ghost inside = { inside track_types ⟦<TrackBox as TrackDeclarations>⟧.declared };
+    ghost inside = { inside track_types ⟦<TrackBox as Catalogued>⟧.declared };
 
-    ghost members = { members track_types track_laws ⟦<TrackBox as TrackDeclarations>⟧.declared };
+    ghost members = { members track_types track_laws ⟦<TrackBox as Catalogued>⟧.declared };
 
     fn holds(name: BoxType) -> bool {
         type_of(u32::from(name)).is_some()
@@ -184,25 +185,25 @@ impl BoxEnum for TrackBox {
     }
 
     fn visit<Q: BoxVisitor>(&self, out: &mut [u8]) -> Q::Answer {
-        of_boxes!(each, TrackBox, self, b => visit_declared::<Q, _>(b, out))
+        of_boxes!(visit_each, Q, TrackBox, self, out)
     }
 
-    ghost named = { named track_types track_laws ⟦<TrackBox as TrackDeclarations>⟧.declared };
+    ghost named = { named track_types track_laws ⟦<TrackBox as Catalogued>⟧.declared };
 }
 
 /// The code identifies the type of a box.
 impl CodedEnum for TrackBox {
-    ghost coded = { by_code track_types track_laws ⟦<TrackBox as TrackDeclarations>⟧.declared };
+    ghost coded = { by_code track_types track_laws ⟦<TrackBox as Catalogued>⟧.declared };
 }
 
 /// Shows the fields of the box inside.
 impl HasFields for TrackBox {
-    ghost shown = { shown track_types ⟦<TrackBox as TrackDeclarations>⟧.declared };
+    ghost shown = { shown track_types ⟦<TrackBox as Catalogued>⟧.declared };
 
-    ghost whole = { whole track_types ⟦<TrackBox as TrackDeclarations>⟧.declared };
+    ghost whole = { whole track_types ⟦<TrackBox as Catalogued>⟧.declared };
 
     fn show<K: FieldSink>(&self, view: View, sink: &mut K) -> mp4_shown::Result<()> {
-        of_boxes!(each, TrackBox, self, b => b.show(view, sink))
+        of_boxes!(show_each, K, TrackBox, self, view, sink)
     }
 }
 

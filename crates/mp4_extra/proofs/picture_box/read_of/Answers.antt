@@ -1,7 +1,7 @@
 use Rattle.std.proofs.Common.{◌-◌}
 use Rattle.mp4_extra.proofs.EqualTypes.{same_reading}
 use Rattle.mp4_extra.specs.PictureBox.{picture_types}
-use Rattle.mp4_extra.specs.contracts.picture_box.PictureBoxPictureDeclarations.TheImpl.{ghosts}
+use Rattle.mp4_extra.specs.contracts.picture_box.PictureBoxCatalogued.TheImpl.{ghosts}
 use Rattle.mp4_extra.specs.declared.picture_box.PictureType.TheVariants as types
 use Rattle.mp4_extra.proofs.picture_box.read_of.Goals as goal
 

@@ -1,7 +1,7 @@
 use Rattle.std.proofs.Common.{◌-◌}
 use Rattle.mp4_extra.proofs.EqualTypes.{same_reading}
 use Rattle.mp4_extra.specs.SampleBox.{sample_types}
-use Rattle.mp4_extra.specs.contracts.sample_box.SampleBoxSampleDeclarations.TheImpl.{ghosts}
+use Rattle.mp4_extra.specs.contracts.sample_box.SampleBoxCatalogued.TheImpl.{ghosts}
 use Rattle.mp4_extra.specs.declared.sample_box.SampleType.TheVariants as types
 use Rattle.mp4_extra.proofs.sample_box.read_of.Goals as goal
 

@@ -1,7 +1,7 @@
 use Rattle.std.proofs.Common.{◌-◌}
 use Rattle.mp4_extra.proofs.EqualTypes.{same_reading}
 use Rattle.mp4_extra.specs.SoundBox.{sound_types}
-use Rattle.mp4_extra.specs.contracts.sound_box.SoundBoxSoundDeclarations.TheImpl.{ghosts}
+use Rattle.mp4_extra.specs.contracts.sound_box.SoundBoxCatalogued.TheImpl.{ghosts}
 use Rattle.mp4_extra.specs.declared.sound_box.SoundType.TheVariants as types
 use Rattle.mp4_extra.proofs.sound_box.read_of.Goals as goal
 

@@ -1,7 +1,7 @@
 use Rattle.std.proofs.Common.{◌-◌}
 use Rattle.mp4_extra.proofs.EqualTypes.{same_reading}
 use Rattle.mp4_extra.specs.TrackBox.{track_types}
-use Rattle.mp4_extra.specs.contracts.track_box.TrackBoxTrackDeclarations.TheImpl.{ghosts}
+use Rattle.mp4_extra.specs.contracts.track_box.TrackBoxCatalogued.TheImpl.{ghosts}
 use Rattle.mp4_extra.specs.declared.track_box.TrackType.TheVariants as types
 use Rattle.mp4_extra.proofs.track_box.read_of.Goals as goal
 
