@@ -591,7 +591,7 @@ def box_in(source):
 
 def is_held(box):
     """Returns whether an `ExtraBox` holds the box."""
-    return any(re.search(rf"\b{box['type']}\b", read(path)) for path in paths("crates/mp4_extra/src/*_box.rt"))
+    return any(re.search(rf"\b{box['type']}\b", read(path)) for path in paths("crates/mp4_extra_*/src/*_box.rt"))
 
 
 @functools.lru_cache(maxsize=None)

@@ -59,7 +59,7 @@ LONGEST = 33_000
 NAMED = [ROWS, "test_boxes"]
 TEST_CRATES = [*NAMED, "mp4_vectors"]
 # A crate with tests beside it. Only these see changes of its boxes.
-OWN = "example_box"
+OWN = "example_boxes"
 # The crates of boxes that no other box uses: their changes are made together, and with no others.
 MORE = "mp4_extra"
 # The status of `rt try` where a test stops at a fault, such as an index out of bounds.

@@ -209,7 +209,7 @@ class Declared:
 def is_held(path):
     """Returns whether a file declares a box that an `ExtraBox` holds."""
     declared = re.search(r"impl DeclaredBox for (\w+)", read(path))
-    enums = glob.glob(os.path.join(TOP, "crates/mp4_extra/src/*_box.rt"))
+    enums = glob.glob(os.path.join(TOP, "crates/mp4_extra_*/src/*_box.rt"))
     return declared and any(re.search(rf"\b{declared[1]} \w+Box\b", read(enum)) for enum in enums)
 
 

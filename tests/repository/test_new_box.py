@@ -43,7 +43,7 @@ READER = '''def padb(c):
 BOX = '''//! The padding bits box.
 
 ghost use Rattle.mp4_declared.specs.OwnBox.{layout_of};
-ghost use Rattle.mp4_extra_segments.specs.declared.padb.TheConstants.{NAMES};
+ghost use Rattle.mp4_extra_samples.specs.declared.padb.TheConstants.{NAMES};
 ghost use Rattle.mp4_frame.specs.declared.codes.TheConstants as codes;
 ghost use Rattle.std.proofs.Common.{refl, lit<};
 
@@ -69,7 +69,7 @@ pub struct Padb {
 pub type PadbShape = Full<1, (U32, Last<Rest>)>;
 
 impl DeclaredBox for Padb {
-    ghost use Rattle.mp4_extra_segments.specs.contracts.padb.Padb.{struct};
+    ghost use Rattle.mp4_extra_samples.specs.contracts.padb.Padb.{struct};
 
     type Shape = PadbShape;
 
@@ -187,7 +187,7 @@ def add(folder):
     touched, lists = [], 0
     for file in files():
         path = os.path.join(folder, file)
-        if file.endswith(f"mp4_extra_segments/src/{NEW}.rt"):
+        if file.endswith(f"mp4_extra_samples/src/{NEW}.rt"):
             text = BOX
         elif file.endswith(f"tests/rows/{NEW}.py"):
             text = ROWS

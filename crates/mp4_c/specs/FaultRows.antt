@@ -16,7 +16,7 @@ use Rattle.mp4_check.specs.declared.fault.Code.{Code}
 use Rattle.mp4_check.specs.declared.fault.Code.TheVariants as c
 use Rattle.mp4_check.specs.declared.fault.Severity.{Severity}
 use Rattle.mp4_check.specs.declared.fault.Severity.TheVariants as severities
-use Rattle.mp4_extra_segments.specs.declared.sidx.Sidx.{Sidx}
+use Rattle.mp4_extra_samples.specs.declared.sidx.Sidx.{Sidx}
 use Rattle.mp4_frame.specs.Reading.{Reading}
 use Rattle.mp4_frame.specs.declared.box_type.BoxType.{BoxType}
 

@@ -9,7 +9,7 @@ use Rattle.mp4_c.specs.declared.track_info.TrackPicture.{TrackPicture}
 use Rattle.mp4_c.specs.declared.track_info.TrackProtection.{TrackProtection}
 use Rattle.mp4_c.specs.declared.track_info.TrackSamples.{TrackSamples}
 use Rattle.mp4_c.specs.declared.track_info.TrackSound.{TrackSound}
-use Rattle.mp4_extra_media.specs.declared.pasp.Pasp.{Pasp}
+use Rattle.mp4_extra_pictures.specs.declared.pasp.Pasp.{Pasp}
 use Rattle.mp4_frame.specs.FourCC.{number_of}
 use Rattle.mp4_frame.specs.declared.four_cc.FourCC.{FourCC}
 use Rattle.mp4_info.specs.Entries.{is_encrypted}

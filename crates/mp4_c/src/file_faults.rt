@@ -12,7 +12,7 @@ use mp4_c_boxes::status::{NO_ROOM, OK, OUT_OF_MEMORY};
 use mp4_c_boxes::to_rows::copy_rows;
 use mp4_check::{Code, Fault, FaultForm, Severity, Told, path_text, words_of, write_faults_as};
 use mp4_content::{Shown, ShownBox, or_memory};
-use mp4_extra::SidxBox;
+use mp4_extra_samples::sidx::SidxBox;
 use mp4_frame::ReadBox;
 use mp4_io::{Failure, or_read};
 use mp4_walk::BoxWalk;

@@ -11,7 +11,7 @@ ghost use Rattle.mp4_c.specs.TrackInfos.{width_of};
 ghost use Rattle.mp4_info.specs.Entries.{is_encrypted};
 
 use crate::text_part::{TextPart, part_at};
-use mp4_extra_media::pasp::PaspBox;
+use mp4_extra_pictures::pasp::PaspBox;
 use mp4_frame::codes::{ENCA, ENCV};
 use mp4_frame::{FourCC, put_bytes};
 use mp4_info::{

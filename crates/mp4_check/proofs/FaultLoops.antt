@@ -15,7 +15,7 @@ use Rattle.mp4_check.specs.declared.fragments.Going.{Going}
 use Rattle.mp4_check.specs.declared.lines.Told.{Told}
 use Rattle.mp4_check.specs.declared.tracks.Met.{Met}
 use Rattle.mp4_check.proofs.ShownFaults.{Laws, Written, WritesFirst, first_all, first_more, first_none}
-use Rattle.mp4_extra_segments.specs.declared.sidx.Sidx.{Sidx}
+use Rattle.mp4_extra_samples.specs.declared.sidx.Sidx.{Sidx}
 use Rattle.mp4_frame.specs.FourCC.{four_cc_of}
 use Rattle.mp4_frame.specs.Reading.{Reading}
 use Rattle.mp4_frame.specs.declared.codes.TheConstants as codes

@@ -1,7 +1,7 @@
 -- The subsegments of an index, one after the other.
 use Rattle.std.proofs.Common.{◌≡◌, ℕ, false, List, [], ◌∷◌, Some, refl}
 use Rattle.mp4_check.specs.Indexes.{first_wrong, is_start, wrong_at}
-use Rattle.mp4_extra_segments.specs.declared.sidx.SidxEntry.{SidxEntry}
+use Rattle.mp4_extra_samples.specs.declared.sidx.SidxEntry.{SidxEntry}
 use Rattle.mp4_walk.specs.declared.tree_box.TreeBox.{TreeBox}
 
 pub wrong_now : (boxes : List TreeBox) (length position before : ℕ) (es : List SidxEntry)

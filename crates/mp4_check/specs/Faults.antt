@@ -19,7 +19,7 @@ use Rattle.mp4_check.specs.declared.fault.What.{What}
 use Rattle.mp4_check.specs.declared.fault.What.TheVariants as what
 use Rattle.mp4_check.specs.declared.lines.Form.{Form}
 use Rattle.mp4_check.specs.declared.lines.Told.{Told}
-use Rattle.mp4_extra_segments.specs.declared.sidx.Sidx.{Sidx}
+use Rattle.mp4_extra_samples.specs.declared.sidx.Sidx.{Sidx}
 use Rattle.mp4_frame.specs.FourCC.{four_cc_of, number_of}
 use Rattle.mp4_frame.specs.Reading.{Reading}
 use Rattle.mp4_frame.specs.declared.box_type.BoxType.{BoxType}

@@ -11,8 +11,8 @@ use Rattle.mp4_check.specs.Paths.{in_file, next}
 use Rattle.mp4_check.specs.declared.fault.What.{What}
 use Rattle.mp4_check.specs.declared.fault.What.TheVariants as what
 use Rattle.mp4_check.specs.declared.indexes.Starts.{Starts}
-use Rattle.mp4_extra_segments.specs.declared.sidx.Sidx.{Sidx}
-use Rattle.mp4_extra_segments.specs.declared.sidx.SidxEntry.{SidxEntry}
+use Rattle.mp4_extra_samples.specs.declared.sidx.Sidx.{Sidx}
+use Rattle.mp4_extra_samples.specs.declared.sidx.SidxEntry.{SidxEntry}
 use Rattle.mp4_frame.specs.FourCC.{four_cc_of}
 use Rattle.mp4_frame.specs.Reading.{Fault, Reading}
 use Rattle.mp4_frame.specs.declared.codes.TheConstants as codes

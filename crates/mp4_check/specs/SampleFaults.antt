@@ -20,7 +20,7 @@ use Rattle.mp4_check.specs.declared.lines.Form.{Form}
 use Rattle.mp4_check.specs.declared.lines.Told.{Told}
 use Rattle.mp4_check.specs.declared.sample_faults.Kept.{Kept}
 use Rattle.mp4_check.specs.declared.sample_faults.SampleFaults.{SampleFaults}
-use Rattle.mp4_extra_segments.specs.declared.sidx.Sidx.{Sidx}
+use Rattle.mp4_extra_samples.specs.declared.sidx.Sidx.{Sidx}
 use Rattle.mp4_flat.specs.declared.trex.TrexBox.{TrexBox}
 use Rattle.mp4_frame.specs.FourCC.{four_cc_of}
 use Rattle.mp4_frame.specs.Reading.{Reading}

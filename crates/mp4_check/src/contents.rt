@@ -5,7 +5,7 @@ ghost use Rattle.mp4_check.specs.Contents.{has_no_sets, is_avcc, is_stz2, is_unl
 
 use crate::fault::Reason;
 use mp4_entries::AvcCBox;
-use mp4_extra::Stz2Box;
+use mp4_extra_samples::stz2::Stz2Box;
 use mp4_frame::Error;
 use mp4_frame::codes::{AVC1, AVC2, AVCC, STBL, STZ2};
 use mp4_io::{Failure, or_read};

@@ -35,7 +35,7 @@ use crate::parts::is_file;
 use crate::path::{BoxPaths, Part, in_file};
 use crate::tracks::{Met, MovieFacts, movie_fault, track_faults};
 use mp4_content::{Shown, or_memory};
-use mp4_extra::SidxBox;
+use mp4_extra_samples::sidx::SidxBox;
 use mp4_flat::TrexBox;
 use mp4_frame::ReadBox;
 use mp4_frame::codes::{MOOF, MOOV, MVEX, MVHD, SIDX, TRAF, TRAK};

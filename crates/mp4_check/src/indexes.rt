@@ -2,12 +2,12 @@
 
 ghost use Rattle.std.specs.Prelude.{◌≡◌, ◌+◌, ℕ, Ok, IfOk, IfSome, List};
 ghost use Rattle.mp4_check.specs.Indexes.{AreStarts, first_wrong, index_found, index_what, is_start, wrong_at};
-ghost use Rattle.mp4_extra_segments.specs.declared.sidx.Sidx.{Sidx};
+ghost use Rattle.mp4_extra_samples.specs.declared.sidx.Sidx.{Sidx};
 ghost use Rattle.mp4_frame.specs.Reading.{Reading};
 ghost use Rattle.mp4_walk.specs.declared.tree_box.TreeBox.{TreeBox};
 
 use crate::fault::What;
-use mp4_extra::{Sidx, SidxBox, SidxEntry};
+use mp4_extra_samples::sidx::{Sidx, SidxBox, SidxEntry};
 use mp4_frame::ReadBox;
 use mp4_io::{Failure, or_read};
 use mp4_movie::read_at;

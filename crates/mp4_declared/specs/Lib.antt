@@ -34,3 +34,5 @@ pub mod ByVersion
 pub mod ByVersionLaws
 pub mod SignedTime
 pub mod SignedTimeLaws
+pub mod Dependent
+pub mod DependentLaws

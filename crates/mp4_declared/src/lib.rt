@@ -2,6 +2,7 @@
 //! its fields.
 #![tactic(auto)]
 
+mod after;
 mod bit_fields;
 mod bits;
 mod checked;
@@ -11,6 +12,7 @@ mod context;
 mod declared;
 mod declared_entry;
 pub mod declaring;
+mod dependent;
 mod each;
 mod each_to_end;
 mod entries;
@@ -34,6 +36,7 @@ mod tuple;
 mod typed;
 mod with_size;
 
+pub use after::read_after;
 pub use bit_fields::Bits;
 pub use checked::{Check, Checked};
 pub use clones::clone_each;
@@ -41,6 +44,7 @@ pub use code::Code;
 pub use context::Context;
 pub use declared::{Declared, DeclaredBox, ShapeVisitor};
 pub use declared_entry::{DeclaredEntry, EntryVisitor};
+pub use dependent::{Dependent, HasContext};
 pub use each::Each;
 pub use each_to_end::{EachToEnd, NOT_FILLED};
 pub use entries::{EntryLayout, entries_fit, entries_of, put_rows};
@@ -49,7 +53,7 @@ pub use last::{Last, Reserved};
 pub use list::{Count, List};
 pub use list_by_version::ListByVersion;
 pub use number::{Time, U8, U16, U24, U32, U64, Zeros};
-pub use optional::{Condition, FromVersion, If, IfFlags};
+pub use optional::{Condition, FromVersion, If, IfFlags, VersionZero};
 pub use or_zeros::OrZeros;
 pub use rows::Rows;
 pub use run::{Array, Bytes, Rest};

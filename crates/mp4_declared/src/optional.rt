@@ -1,6 +1,6 @@
 //! Shapes that are present only in some versions, or only with some flags.
 
-ghost use Rattle.std.specs.Prelude.{◌≡◌, Bool, nat_le, nat_lt, bit_and, option_map};
+ghost use Rattle.std.specs.Prelude.{◌≡◌, ◌==◌, Bool, nat_le, nat_lt, bit_and, option_map};
 ghost use Rattle.mp4_declared.specs.OptionalShapes.{shape_if};
 ghost use Rattle.mp4_declared.specs.declared.context.Context.{Context};
 ghost use Rattle.mp4_declared.specs.OptionalShapesLaws.{laws_if};
@@ -29,6 +29,18 @@ impl<const V: u8> Condition for FromVersion<V> {
     #[inline]
     fn holds(context: Context) -> bool {
         V <= context.version
+    }
+}
+
+/// The condition that the version is 0.
+pub struct VersionZero;
+
+impl Condition for VersionZero {
+    ghost holds = { λ c. c.version == 0 };
+
+    #[inline]
+    fn holds(context: Context) -> bool {
+        context.version == 0
     }
 }
 

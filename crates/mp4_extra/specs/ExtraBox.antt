@@ -3,19 +3,19 @@ use Rattle.std.specs.Prelude.{ℕ, Bool, ◌||◌, if◌then◌else◌, List, Op
 use Rattle.mp4_frame.specs.declared.box_type.BoxType.{BoxType}
 use Rattle.mp4_frame.specs.Members.{Known, is_known, reading_known}
 use Rattle.mp4_frame.specs.Reading.{Reading, map_reading}
-use Rattle.mp4_extra.specs.Catalogue.{Entry, Catalogue, Declarations}
-use Rattle.mp4_extra.specs.PictureBox.{picture_types}
-use Rattle.mp4_extra.specs.SampleBox.{sample_types}
-use Rattle.mp4_extra.specs.SoundBox.{sound_types}
-use Rattle.mp4_extra.specs.TrackBox.{track_types}
-use Rattle.mp4_extra.specs.declared.picture_box.PictureType.{PictureType}
-use Rattle.mp4_extra.specs.declared.sample_box.SampleType.{SampleType}
-use Rattle.mp4_extra.specs.declared.sound_box.SoundType.{SoundType}
-use Rattle.mp4_extra.specs.declared.track_box.TrackType.{TrackType}
-use Rattle.mp4_extra.specs.declared.picture_box.PictureBox.{PictureBox}
-use Rattle.mp4_extra.specs.declared.sample_box.SampleBox.{SampleBox}
-use Rattle.mp4_extra.specs.declared.sound_box.SoundBox.{SoundBox}
-use Rattle.mp4_extra.specs.declared.track_box.TrackBox.{TrackBox}
+use Rattle.mp4_shown.specs.Catalogue.{Entry, Catalogue, Declarations}
+use Rattle.mp4_extra_pictures.specs.PictureBox.{picture_types}
+use Rattle.mp4_extra_samples.specs.SampleBox.{sample_types}
+use Rattle.mp4_extra_sound.specs.SoundBox.{sound_types}
+use Rattle.mp4_extra_tracks.specs.TrackBox.{track_types}
+use Rattle.mp4_extra_pictures.specs.declared.picture_box.PictureType.{PictureType}
+use Rattle.mp4_extra_samples.specs.declared.sample_box.SampleType.{SampleType}
+use Rattle.mp4_extra_sound.specs.declared.sound_box.SoundType.{SoundType}
+use Rattle.mp4_extra_tracks.specs.declared.track_box.TrackType.{TrackType}
+use Rattle.mp4_extra_pictures.specs.declared.picture_box.PictureBox.{PictureBox}
+use Rattle.mp4_extra_samples.specs.declared.sample_box.SampleBox.{SampleBox}
+use Rattle.mp4_extra_sound.specs.declared.sound_box.SoundBox.{SoundBox}
+use Rattle.mp4_extra_tracks.specs.declared.track_box.TrackBox.{TrackBox}
 use Rattle.mp4_extra.specs.declared.extra_box.ExtraBox.{ExtraBox}
 use Rattle.mp4_extra.specs.declared.extra_box.ExtraBox.TheVariants as boxes
 

@@ -1,23 +1,23 @@
 -- No two of the four enums have a type of the same code, so a type of this crate is found by its code, and no other is.
 use Rattle.std.proofs.Common.{◌≡◌, ℕ, Option, None, Some, refl, ap, subst, ◌∙◌}
-use Rattle.mp4_extra.specs.CatalogueLaws.{IsCatalogue}
+use Rattle.mp4_shown.specs.CatalogueLaws.{IsCatalogue}
 use Rattle.mp4_extra.specs.ExtraBox.{ExtraType, OfPicture, OfSound, OfSample, OfTrack, entry_of, first_of, opened}
 use Rattle.mp4_extra.specs.ExtraBox.{track_or_none, sample_or_later, sound_or_later, extra_of_code, extra_types}
-use Rattle.mp4_extra.specs.PictureBox.{picture_types, picture_of_code}
-use Rattle.mp4_extra.specs.PictureBoxLaws.{picture_laws}
-use Rattle.mp4_extra.specs.SampleBox.{sample_types, sample_of_code}
-use Rattle.mp4_extra.specs.SampleBoxLaws.{sample_laws}
-use Rattle.mp4_extra.specs.SoundBox.{sound_types, sound_of_code}
-use Rattle.mp4_extra.specs.SoundBoxLaws.{sound_laws}
-use Rattle.mp4_extra.specs.TrackBox.{track_types}
-use Rattle.mp4_extra.specs.TrackBoxLaws.{track_laws}
-use Rattle.mp4_extra.specs.declared.picture_box.PictureType.{PictureType}
-use Rattle.mp4_extra.specs.declared.sample_box.SampleType.{SampleType}
-use Rattle.mp4_extra.specs.declared.sample_box.SampleType.TheVariants as sample
-use Rattle.mp4_extra.specs.declared.sound_box.SoundType.{SoundType}
-use Rattle.mp4_extra.specs.declared.sound_box.SoundType.TheVariants as sound
-use Rattle.mp4_extra.specs.declared.track_box.TrackType.{TrackType}
-use Rattle.mp4_extra.specs.declared.track_box.TrackType.TheVariants as track
+use Rattle.mp4_extra_pictures.specs.PictureBox.{picture_types, picture_of_code}
+use Rattle.mp4_extra_pictures.specs.PictureBoxLaws.{picture_laws}
+use Rattle.mp4_extra_samples.specs.SampleBox.{sample_types, sample_of_code}
+use Rattle.mp4_extra_samples.specs.SampleBoxLaws.{sample_laws}
+use Rattle.mp4_extra_sound.specs.SoundBox.{sound_types, sound_of_code}
+use Rattle.mp4_extra_sound.specs.SoundBoxLaws.{sound_laws}
+use Rattle.mp4_extra_tracks.specs.TrackBox.{track_types}
+use Rattle.mp4_extra_tracks.specs.TrackBoxLaws.{track_laws}
+use Rattle.mp4_extra_pictures.specs.declared.picture_box.PictureType.{PictureType}
+use Rattle.mp4_extra_samples.specs.declared.sample_box.SampleType.{SampleType}
+use Rattle.mp4_extra_samples.specs.declared.sample_box.SampleType.TheVariants as sample
+use Rattle.mp4_extra_sound.specs.declared.sound_box.SoundType.{SoundType}
+use Rattle.mp4_extra_sound.specs.declared.sound_box.SoundType.TheVariants as sound
+use Rattle.mp4_extra_tracks.specs.declared.track_box.TrackType.{TrackType}
+use Rattle.mp4_extra_tracks.specs.declared.track_box.TrackType.TheVariants as track
 use Rattle.mp4_extra.specs.declared.extra_box.ExtraBox.{ExtraBox}
 use Rattle.mp4_extra.specs.declared.extra_box.ExtraBox.TheVariants as boxes
 

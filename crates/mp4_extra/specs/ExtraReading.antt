@@ -5,18 +5,18 @@ use Rattle.mp4_frame.specs.BoxType.{code_of}
 use Rattle.mp4_frame.specs.declared.box_type.BoxType.{BoxType}
 use Rattle.mp4_frame.specs.Members.{is_known, reading_known}
 use Rattle.mp4_frame.specs.Reading.{Fault, Reading, and_then, done, map_reading, reading}
-use Rattle.mp4_extra.specs.Catalogue.{Catalogue, Declarations, known_as, kinds, reads_of}
+use Rattle.mp4_shown.specs.Catalogue.{Catalogue, Declarations, known_as, kinds, reads_of}
 use Rattle.mp4_extra.specs.ExtraBox.{ExtraType, OfPicture, OfSound, OfSample, OfTrack, first_of, extra_types}
 use Rattle.mp4_extra.specs.ExtraBox.{track_or_none, sample_or_later, sound_or_later, declarations}
 use Rattle.mp4_extra.specs.ExtraBox.{known_any, reading_any}
-use Rattle.mp4_extra.specs.PictureBox.{picture_types}
-use Rattle.mp4_extra.specs.SampleBox.{sample_types}
-use Rattle.mp4_extra.specs.SoundBox.{sound_types}
-use Rattle.mp4_extra.specs.TrackBox.{track_types}
-use Rattle.mp4_extra.specs.declared.picture_box.PictureType.{PictureType}
-use Rattle.mp4_extra.specs.declared.sample_box.SampleType.{SampleType}
-use Rattle.mp4_extra.specs.declared.sound_box.SoundType.{SoundType}
-use Rattle.mp4_extra.specs.declared.track_box.TrackType.{TrackType}
+use Rattle.mp4_extra_pictures.specs.PictureBox.{picture_types}
+use Rattle.mp4_extra_samples.specs.SampleBox.{sample_types}
+use Rattle.mp4_extra_sound.specs.SoundBox.{sound_types}
+use Rattle.mp4_extra_tracks.specs.TrackBox.{track_types}
+use Rattle.mp4_extra_pictures.specs.declared.picture_box.PictureType.{PictureType}
+use Rattle.mp4_extra_samples.specs.declared.sample_box.SampleType.{SampleType}
+use Rattle.mp4_extra_sound.specs.declared.sound_box.SoundType.{SoundType}
+use Rattle.mp4_extra_tracks.specs.declared.track_box.TrackType.{TrackType}
 use Rattle.mp4_extra.specs.declared.extra_box.ExtraBox.{ExtraBox}
 use Rattle.mp4_extra.specs.declared.extra_box.ExtraBox.TheVariants as boxes
 

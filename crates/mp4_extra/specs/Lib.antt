@@ -1,13 +1,3 @@
-pub mod Catalogue
-pub mod CatalogueLaws
 pub mod ExtraBox
 pub mod ExtraBoxLaws
 pub mod ExtraReading
-pub mod PictureBox
-pub mod PictureBoxLaws
-pub mod SampleBox
-pub mod SampleBoxLaws
-pub mod SoundBox
-pub mod SoundBoxLaws
-pub mod TrackBox
-pub mod TrackBoxLaws

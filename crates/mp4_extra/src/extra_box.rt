@@ -3,20 +3,19 @@
 ghost use Rattle.std.specs.Prelude.{◌≡◌, ◌+◌, ◌-◌, ◌≤◌, IsTrue, OnOk, OnErr, max};
 ghost use Rattle.mp4_frame.specs.Members.{is_known, reading_known};
 ghost use Rattle.mp4_frame.specs.Reading.{Answers, map_reading};
-ghost use Rattle.mp4_extra.specs.Catalogue.{Declarations, inside, kinds, shown, whole};
-ghost use Rattle.mp4_extra.specs.CatalogueLaws.{by_code, members, named};
+ghost use Rattle.mp4_shown.specs.Catalogue.{Declarations, inside, kinds, shown, whole};
+ghost use Rattle.mp4_shown.specs.CatalogueLaws.{by_code, members, named};
 ghost use Rattle.mp4_extra.specs.ExtraBox.{declarations, extra_types, known_any, reading_any};
 ghost use Rattle.mp4_extra.specs.ExtraBoxLaws.{extra_laws};
 ghost use Rattle.mp4_extra.specs.declared.extra_box.ExtraBox.TheVariants as boxes;
 
-use crate::declarations::Catalogued;
-use crate::picture_box::PictureBox;
-use crate::sample_box::SampleBox;
-use crate::sound_box::SoundBox;
-use crate::track_box::TrackBox;
 use mp4_compose::CodedEnum;
+use mp4_extra_pictures::picture_box::PictureBox;
+use mp4_extra_samples::sample_box::SampleBox;
+use mp4_extra_sound::sound_box::SoundBox;
+use mp4_extra_tracks::track_box::TrackBox;
 use mp4_frame::{BoxEnum, BoxType, BoxVisitor, ByteCursor, Holds, Result, TryClone, clone_as};
-use mp4_shown::{FieldSink, HasFields, View};
+use mp4_shown::{Catalogued, FieldSink, HasFields, View};
 use std::alloc::Global;
 use std::fmt;
 

@@ -4,8 +4,8 @@ use Rattle.std.specs.Prelude.{IfSome}
 use Rattle.std.specs.BTreeMap.{get}
 use Rattle.std.specs.Ordering.{nat_cmp}
 use Rattle.std.specs.declared.option.Option.{Option}
-use Rattle.mp4_extra_media.specs.declared.hvcc.Hvcc.{Hvcc}
-use Rattle.mp4_extra_segments.specs.declared.sidx.Sidx.{Sidx}
+use Rattle.mp4_extra_pictures.specs.declared.hvcc.Hvcc.{Hvcc}
+use Rattle.mp4_extra_samples.specs.declared.sidx.Sidx.{Sidx}
 use Rattle.mp4_flat.specs.Boxes.{reads_mvhd}
 use Rattle.mp4_flat.specs.declared.mvhd.MvhdBox.{MvhdBox}
 use Rattle.mp4_frame.specs.FourCC.{four_cc_of}

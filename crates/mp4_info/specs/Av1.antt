@@ -2,8 +2,8 @@
 -- level and tier of operating point 0, the bit depth, and optional elements, which are all there or all left out.
 use Rattle.std.specs.Prelude.{ℕ, ◌==◌, ◌&&◌, Bool, not, List, [], ◌++◌, codes, decimal, None, Some, if◌then◌else◌}
 use Rattle.std.specs.declared.option.Option.{Option}
-use Rattle.mp4_extra_media.specs.declared.av1c.Av1Config.{Av1Config}
-use Rattle.mp4_extra_media.specs.declared.colr.Nclx.{Nclx}
+use Rattle.mp4_extra_pictures.specs.declared.av1c.Av1Config.{Av1Config}
+use Rattle.mp4_extra_pictures.specs.declared.colr.Nclx.{Nclx}
 use Rattle.mp4_frame.specs.declared.four_cc.FourCC.{FourCC}
 use Rattle.mp4_info.specs.Digits.{bit, element, wide_element}
 use Rattle.mp4_shown_json.specs.Tokens.{code_text}

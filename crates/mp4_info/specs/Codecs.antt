@@ -8,12 +8,12 @@ use Rattle.std.specs.declared.option.Option.{Option}
 use Rattle.mp4_declared.specs.declared.typed.OfType.{OfType}
 use Rattle.mp4_declared.specs.declared.typed.OfType.TheVariants as of_type
 use Rattle.mp4_entries.specs.Boxes.{reads_avcc, reads_vpcc}
-use Rattle.mp4_extra_media.specs.declared.av1c.Av1c.{Av1c}
-use Rattle.mp4_extra_media.specs.declared.colr.Colr.{Colr}
-use Rattle.mp4_extra_media.specs.declared.colr.Nclx.{Nclx}
-use Rattle.mp4_extra_media.specs.declared.dvcc.Dvcc.{Dvcc}
-use Rattle.mp4_extra_media.specs.declared.dvvc.Dvvc.{Dvvc}
-use Rattle.mp4_extra_media.specs.declared.hvcc.Hvcc.{Hvcc}
+use Rattle.mp4_extra_pictures.specs.declared.av1c.Av1c.{Av1c}
+use Rattle.mp4_extra_pictures.specs.declared.colr.Colr.{Colr}
+use Rattle.mp4_extra_pictures.specs.declared.colr.Nclx.{Nclx}
+use Rattle.mp4_extra_pictures.specs.declared.dvcc.Dvcc.{Dvcc}
+use Rattle.mp4_extra_pictures.specs.declared.dvvc.Dvvc.{Dvvc}
+use Rattle.mp4_extra_pictures.specs.declared.hvcc.Hvcc.{Hvcc}
 use Rattle.mp4_frame.specs.FourCC.{four_cc_of, number_of}
 use Rattle.mp4_frame.specs.Reading.{Reading}
 use Rattle.mp4_frame.specs.declared.codes.TheConstants as codes

@@ -3,16 +3,16 @@ use Rattle.std.specs.Prelude.{ℕ, ◌≡◌, ◌+◌, ◌-◌, ◌/◌, ◌%◌
 use Rattle.std.specs.Prelude.{List, [], ◌∷◌, drop, length, min, slice_get, string_bytes, None, Some, if◌then◌else◌}
 use Rattle.std.specs.Option.{option_or}
 use Rattle.std.specs.declared.option.Option.{Option}
-use Rattle.mp4_extra_media.specs.declared.clli.Clli.{Clli}
-use Rattle.mp4_extra_media.specs.declared.dac3.Dac3.{Dac3}
-use Rattle.mp4_extra_media.specs.declared.dec3.Dec3.{Dec3}
-use Rattle.mp4_extra_media.specs.declared.dops.Dops.{Dops}
-use Rattle.mp4_extra_media.specs.declared.mdcv.Mdcv.{Mdcv}
-use Rattle.mp4_extra_media.specs.declared.colr.Colr.{Colr}
-use Rattle.mp4_extra_media.specs.declared.pasp.Pasp.{Pasp}
-use Rattle.mp4_extra_segments.specs.declared.frma.Frma.{Frma}
-use Rattle.mp4_extra_segments.specs.declared.schm.Schm.{Schm}
-use Rattle.mp4_extra_segments.specs.declared.tenc.Tenc.{Tenc}
+use Rattle.mp4_extra_pictures.specs.declared.clli.Clli.{Clli}
+use Rattle.mp4_extra_sound.specs.declared.dac3.Dac3.{Dac3}
+use Rattle.mp4_extra_sound.specs.declared.dec3.Dec3.{Dec3}
+use Rattle.mp4_extra_sound.specs.declared.dops.Dops.{Dops}
+use Rattle.mp4_extra_pictures.specs.declared.mdcv.Mdcv.{Mdcv}
+use Rattle.mp4_extra_pictures.specs.declared.colr.Colr.{Colr}
+use Rattle.mp4_extra_pictures.specs.declared.pasp.Pasp.{Pasp}
+use Rattle.mp4_extra_tracks.specs.declared.frma.Frma.{Frma}
+use Rattle.mp4_extra_tracks.specs.declared.schm.Schm.{Schm}
+use Rattle.mp4_extra_tracks.specs.declared.tenc.Tenc.{Tenc}
 use Rattle.mp4_frame.specs.Bytes.{number}
 use Rattle.mp4_frame.specs.FourCC.{four_cc_of, number_of}
 use Rattle.mp4_frame.specs.Reading.{Reading}

@@ -3,8 +3,8 @@ use Rattle.std.specs.Prelude.{◌≡◌, ℕ, ◌==◌, ◌&&◌, ◌||◌, nat_
 use Rattle.std.specs.Prelude.{Result, Ok, Err, None, Some, if◌then◌else◌}
 use Rattle.std.specs.Option.{is_some}
 use Rattle.std.specs.declared.option.Option.{Option}
-use Rattle.mp4_extra_segments.specs.declared.data.Data.{Data}
-use Rattle.mp4_extra_segments.specs.declared.sidx.Sidx.{Sidx}
+use Rattle.mp4_extra_tracks.specs.declared.data.Data.{Data}
+use Rattle.mp4_extra_samples.specs.declared.sidx.Sidx.{Sidx}
 use Rattle.mp4_flat.specs.Boxes.{reads_mvhd}
 use Rattle.mp4_flat.specs.declared.mvhd.MvhdBox.{MvhdBox}
 use Rattle.mp4_frame.specs.FourCC.{four_cc_of, number_of}

@@ -5,9 +5,9 @@ use Rattle.std.specs.declared.option.Option.{Option}
 use Rattle.json.specs.Print.{print}
 use Rattle.json.specs.Token.{Token}
 use Rattle.json.specs.Written.{Written}
-use Rattle.mp4_extra_segments.specs.declared.data.Data.{Data}
-use Rattle.mp4_extra_segments.specs.declared.sidx.Sidx.{Sidx}
-use Rattle.mp4_extra_segments.specs.declared.sidx.SidxEntry.{SidxEntry}
+use Rattle.mp4_extra_tracks.specs.declared.data.Data.{Data}
+use Rattle.mp4_extra_samples.specs.declared.sidx.Sidx.{Sidx}
+use Rattle.mp4_extra_samples.specs.declared.sidx.SidxEntry.{SidxEntry}
 use Rattle.mp4_flat.specs.declared.mvhd.MvhdBox.{MvhdBox}
 use Rattle.mp4_flat.specs.declared.tkhd.TkhdBox.{TkhdBox}
 use Rattle.mp4_info.specs.Durations.{of_ticks}

@@ -3,8 +3,8 @@
 use Rattle.std.specs.Prelude.{ℕ, ◌+◌, ◌*◌, ◌==◌, ◌||◌, Bool, false, true, List, [], ◌∷◌, max, None, Some}
 use Rattle.std.specs.Prelude.{if◌then◌else◌}
 use Rattle.std.specs.declared.option.Option.{Option}
-use Rattle.mp4_extra_segments.specs.declared.elng.Elng.{Elng}
-use Rattle.mp4_extra_segments.specs.declared.tref.Tref.{Tref}
+use Rattle.mp4_extra_tracks.specs.declared.elng.Elng.{Elng}
+use Rattle.mp4_extra_tracks.specs.declared.tref.Tref.{Tref}
 use Rattle.mp4_flat.specs.Boxes.{reads_mdhd, reads_tkhd}
 use Rattle.mp4_flat.specs.declared.mdhd.MdhdBox.{MdhdBox}
 use Rattle.mp4_flat.specs.declared.tkhd.TkhdBox.{TkhdBox}

@@ -1,7 +1,7 @@
 -- The string of HEVC video (ISO/IEC 14496-15, E.3): the code of the sample entry, and the elements below.
 use Rattle.std.specs.Prelude.{ℕ, ◌*◌, ◌/◌, ◌%◌, ◌^◌, ◌==◌, Bool, List, [], ◌++◌, codes, decimal, if◌then◌else◌}
 use Rattle.std.specs.Int.{w32, reverse_bits}
-use Rattle.mp4_extra_media.specs.declared.hvcc.HevcProfile.{HevcProfile}
+use Rattle.mp4_extra_pictures.specs.declared.hvcc.HevcProfile.{HevcProfile}
 use Rattle.mp4_frame.specs.declared.four_cc.FourCC.{FourCC}
 use Rattle.mp4_info.specs.Digits.{hexadecimal}
 use Rattle.mp4_shown_json.specs.Tokens.{code_text}

@@ -4,7 +4,7 @@ use Rattle.std.specs.Prelude.{None, Some, if◌then◌else◌}
 use Rattle.std.specs.List.{list_all}
 use Rattle.std.specs.Str.{bytes_eq}
 use Rattle.std.specs.declared.option.Option.{Option}
-use Rattle.mp4_extra_segments.specs.declared.elng.Elng.{Elng}
+use Rattle.mp4_extra_tracks.specs.declared.elng.Elng.{Elng}
 
 -- a text without the zero byte that ends it
 abbrev pub without_end : List ℕ → List ℕ

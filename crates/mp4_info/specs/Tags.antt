@@ -2,7 +2,7 @@
 -- read.
 use Rattle.std.specs.Prelude.{ℕ, ◌==◌, nat_lt, List, [], ◌∷◌, ◌++◌, map, None, Some, if◌then◌else◌}
 use Rattle.std.specs.declared.option.Option.{Option}
-use Rattle.mp4_extra_segments.specs.declared.data.Data.{Data}
+use Rattle.mp4_extra_tracks.specs.declared.data.Data.{Data}
 use Rattle.mp4_frame.specs.FourCC.{four_cc_of}
 use Rattle.mp4_frame.specs.Reading.{Reading}
 use Rattle.mp4_frame.specs.declared.codes.TheConstants as codes

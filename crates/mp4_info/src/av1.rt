@@ -6,8 +6,8 @@ ghost use Rattle.mp4_info.specs.Av1.{has_default_sampling, mandatory_elements, o
 ghost use Rattle.mp4_info.specs.Av1.{subsampling_element, tier_letter};
 
 use crate::digits::{bit, push_element, push_number, push_wide_element};
-use mp4_extra_media::av1c::Av1Config;
-use mp4_extra_media::colr::Nclx;
+use mp4_extra_pictures::av1c::Av1Config;
+use mp4_extra_pictures::colr::Nclx;
 use mp4_frame::FourCC;
 use mp4_shown::Result;
 use mp4_shown_json::push_latin;

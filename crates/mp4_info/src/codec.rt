@@ -19,11 +19,11 @@ use crate::mpeg4::{push_mpeg4_audio, push_mpeg4_video};
 use crate::vp::push_vp;
 use mp4_declared::OfType;
 use mp4_entries::{AvcCBox, VpccBox};
-use mp4_extra_media::av1c::Av1cBox;
-use mp4_extra_media::colr::{ColrBox, Nclx};
-use mp4_extra_media::dvcc::DvccBox;
-use mp4_extra_media::dvvc::DvvcBox;
-use mp4_extra_media::hvcc::HvccBox;
+use mp4_extra_pictures::av1c::Av1cBox;
+use mp4_extra_pictures::colr::{ColrBox, Nclx};
+use mp4_extra_pictures::dvcc::DvccBox;
+use mp4_extra_pictures::dvvc::DvvcBox;
+use mp4_extra_pictures::hvcc::HvccBox;
 use mp4_frame::codes::{
     AV01, AVC1, AVC2, AVC3, AVC4, DVA1, DVAV, DVH1, DVHE, HEV1, HVC1, MP4A, MP4V, VP08, VP09,
 };

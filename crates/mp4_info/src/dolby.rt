@@ -4,7 +4,7 @@ ghost use Rattle.std.specs.Prelude.{◌≡◌, ◌++◌, OnOk, string_bytes};
 ghost use Rattle.mp4_info.specs.Dolby.{dolby_string};
 
 use crate::digits::push_wide_element;
-use mp4_extra_media::dvcc::DolbyVisionConfig;
+use mp4_extra_pictures::dvcc::DolbyVisionConfig;
 use mp4_frame::FourCC;
 use mp4_shown::Result;
 use mp4_shown_json::push_latin;

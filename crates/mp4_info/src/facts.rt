@@ -30,7 +30,7 @@ use crate::run_times::{push_fragment, times_of};
 use crate::tags::{ItemValue, ReadsValue, Tag, tags_in};
 use crate::totals::{Piece, Totals, sample_time, shown_end, totals_of};
 use crate::track_pieces::{AllPieces, all_pieces, pieces_in, times_in};
-use mp4_extra_segments::sidx::SidxBox;
+use mp4_extra_samples::sidx::SidxBox;
 use mp4_flat::MvhdBox;
 use mp4_frame::{ReadBox, codes};
 use mp4_io::{Failure, or_read, read_failure};

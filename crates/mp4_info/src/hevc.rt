@@ -5,7 +5,7 @@ ghost use Rattle.mp4_info.specs.Hevc.{compatibility_element, constraint_element,
 ghost use Rattle.mp4_info.specs.Hevc.{level_element, profile_element, space_letter, tier_letter};
 
 use crate::digits::{push_hexadecimal, push_number};
-use mp4_extra_media::hvcc::HevcProfile;
+use mp4_extra_pictures::hvcc::HevcProfile;
 use mp4_frame::FourCC;
 use mp4_shown::Result;
 use mp4_shown_json::push_latin;

@@ -5,7 +5,7 @@ ghost use Rattle.std.specs.Str.{bytes_eq};
 ghost use Rattle.mp4_info.specs.Languages.{are_letters, is_letter, language_of, letters_or_und, of_zero, tag_of};
 ghost use Rattle.mp4_info.specs.Languages.{without_end};
 
-use mp4_extra_segments::elng::ElngBox;
+use mp4_extra_tracks::elng::ElngBox;
 
 /// Returns `bytes` without a zero byte at the end.
 fn without_end(bytes: &[u8]) -> &[u8]

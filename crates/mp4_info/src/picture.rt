@@ -5,10 +5,10 @@ ghost use Rattle.mp4_info.specs.Entries.{fields_of, picture_in, size_of};
 
 use crate::codec::in_entry;
 use crate::entry::{EntryReading, ReadsEntry};
-use mp4_extra_media::clli::ClliBox;
-use mp4_extra_media::colr::ColrBox;
-use mp4_extra_media::mdcv::MdcvBox;
-use mp4_extra_media::pasp::PaspBox;
+use mp4_extra_pictures::clli::ClliBox;
+use mp4_extra_pictures::colr::ColrBox;
+use mp4_extra_pictures::mdcv::MdcvBox;
+use mp4_extra_pictures::pasp::PaspBox;
 use mp4_frame::{codes, u16_at};
 use mp4_io::{Failure, or_read};
 use mp4_movie::BoxLocation;

@@ -1,12 +1,12 @@
 //! The tags of a movie.
 
 ghost use Rattle.std.specs.Prelude.{◌≡◌, ℕ, List, [], ◌∷◌, ◌++◌, IfOk, OnOk, IfSome};
-ghost use Rattle.mp4_extra_segments.specs.declared.data.Data.{Data};
+ghost use Rattle.mp4_extra_tracks.specs.declared.data.Data.{Data};
 ghost use Rattle.mp4_frame.specs.Reading.{Reading};
 ghost use Rattle.mp4_info.specs.Tags.{items_in, tag_of, tags_at, tags_in, tags_of};
 
 use crate::found::found;
-use mp4_extra_segments::data::DataBox;
+use mp4_extra_tracks::data::DataBox;
 use mp4_frame::{FourCC, ReadBox, codes};
 use mp4_io::Failure;
 use mp4_movie::inside;

@@ -6,7 +6,7 @@ use Rattle.mp4_check.specs.SampleFaults.{WritesAll}
 use Rattle.mp4_check.specs.declared.lines.Form.{Form}
 use Rattle.mp4_check.specs.declared.lines.Form.TheVariants as forms
 use Rattle.mp4_check.specs.declared.lines.Told.{Told}
-use Rattle.mp4_extra_segments.specs.declared.sidx.Sidx.{Sidx}
+use Rattle.mp4_extra_samples.specs.declared.sidx.Sidx.{Sidx}
 use Rattle.mp4_frame.specs.Reading.{Reading}
 use Rattle.mp4_frame.specs.declared.box_type.BoxType.{BoxType}
 use Rattle.mp4_inspect.specs.declared.program.Checked.{Checked}

@@ -19,7 +19,7 @@ use crate::tree_json::tree_json;
 use crate::tree_text::write_tree;
 use mp4_check::{Form, Told, write_faults, write_sample_faults};
 use mp4_content::Shown;
-use mp4_extra::SidxBox;
+use mp4_extra_samples::sidx::SidxBox;
 use mp4_frame::ReadBox;
 use mp4_info::{FileFacts, InfoBoxes, ReadsInfo, facts_of, info_json, info_text, is_known};
 use mp4_inspect_samples::{Choice, TrackFault, write_samples};

@@ -2,3 +2,4 @@ mod Named
 mod OneMore
 mod PieceSteps
 mod PastEnd
+pub mod EqualTypes

@@ -7,3 +7,5 @@ pub mod Lists
 pub mod Shapes
 pub mod Members
 pub mod Pieces
+pub mod Catalogue
+pub mod CatalogueLaws

@@ -1,11 +1,13 @@
 //! For authors of box types: hands the fields of a box to a sink, each by the name that the standard gives it. What is
-//! handed over follows from the shape of the box and the names of its fields.
+//! handed over follows from the shape of the box and the names of its fields. For enums of such boxes there are the
+//! definition of their types, its laws, and macros over the list of the types.
 #![tactic(auto)]
 
 mod bytes;
 mod bytes_name;
 mod codes;
 mod entries;
+mod enums;
 mod field_sink;
 mod group;
 mod has_fields;
@@ -13,6 +15,7 @@ mod list_name;
 mod lists;
 mod macros;
 mod named_by;
+mod nested;
 mod number_name;
 mod numbers;
 mod numbers_at;
@@ -29,11 +32,13 @@ mod view;
 
 pub use bytes_name::{BytesAs, BytesName, put_bytes};
 pub use entries::{EntriesOf, ShownEntry};
+pub use enums::{Catalogued, Described, read_declared, show_held, visit_held};
 pub use field_sink::{FieldSink, Result};
 pub use group::Group;
 pub use has_fields::{HasFields, put_fields};
 pub use list_name::{ListAs, ListName};
 pub use named_by::NamedBy;
+pub use nested::Nested;
 pub use number_name::{FLAGS, NumberAs, NumberName, VERSION, put_number, put_numbers, put_signed};
 pub use numbers_at::{byte_at, number_at};
 pub use pieces::{Pieces, PiecesOf};

@@ -1,7 +1,7 @@
 //! Calls of the codec while one request for memory, or one and all later ones, may be refused. A call that is out of
 //! memory leaves everything unchanged and is made again. Then it has its usual result, or is out of memory once more.
 
-use example_callers::mark::MarkBox;
+use example_boxes::mark::MarkBox;
 use mp4_stream::{
     AnyBox, AvcConfig, ByteCursor, Co64Box, Error, KeptBox, MdhdBox, MediaConfig, NalUnit, StcoBox,
     StreamBox, TryClone, WriteBox, language_string, list_boxes, read_boxes_as, write_boxes,

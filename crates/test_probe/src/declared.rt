@@ -13,7 +13,7 @@ use mp4_stream::{
 use std::alloc::{AllocError, Global};
 use std::fmt::Debug;
 use std::marker::PhantomData;
-use test_extra::{
+use test_boxes::{
     LINS, LinesBox, NEST, NUMB, NestedBox, NumbersBox, OPTS, OUTR, OptionsBox, OuterBox, RANG,
     RUNS, RangeBox, RunsBox, STRS, StringsBox, TREP, TrepBox,
 };
@@ -67,7 +67,7 @@ fn show_named<B: StreamBox + Debug>(
     show_read(alloc, &found, reader, out)
 }
 
-/// Appends the two records of a box with the code `code`: one of `test_extra` that holds lists, or another box. Three
+/// Appends the two records of a box with the code `code`: one of `test_boxes` that holds lists, or another box. Three
 /// functions have three arms each: the time of a proof grows faster than the number of arms.
 fn show_lists(
     alloc: Global,
@@ -86,7 +86,7 @@ fn show_lists(
     }
 }
 
-/// Appends the two records of a box with the code `code`: one of `test_extra` that holds numbers, or another box.
+/// Appends the two records of a box with the code `code`: one of `test_boxes` that holds numbers, or another box.
 fn show_numbers(
     alloc: Global,
     code: u32,
@@ -104,7 +104,7 @@ fn show_numbers(
     }
 }
 
-/// Appends the two records of a box with the code `code`: one of `test_extra` that holds strings or boxes, or one of
+/// Appends the two records of a box with the code `code`: one of `test_boxes` that holds strings or boxes, or one of
 /// `mp4_extra`.
 fn show_parents(
     alloc: Global,
@@ -124,7 +124,7 @@ fn show_parents(
 }
 
 /// Appends two records of the box whose header is at the cursor. They are empty if its type isn't declared in
-/// `mp4_extra` or `test_extra`.
+/// `mp4_extra` or `test_boxes`.
 pub(crate) fn show_declared(
     alloc: Global,
     reader: &mut ByteCursor,

@@ -4,9 +4,9 @@ use crate::forms::fragment_part::FragmentPart;
 use crate::forms::new_bytes::{begin_box, end_box, push_box, push_u32, push_u64};
 use crate::forms::refusal::{FormRefusal, FormStop};
 use mp4_declared::Declared;
-use mp4_extra_segments::mfro::Mfro;
-use mp4_extra_segments::sidx::{Sidx, SidxEntry};
-use mp4_extra_segments::tfra::{Tfra, TfraLengths};
+use mp4_extra_samples::mfro::Mfro;
+use mp4_extra_samples::sidx::{Sidx, SidxEntry};
+use mp4_extra_samples::tfra::{Tfra, TfraLengths};
 use mp4_frame::{Entries, codes};
 use std::alloc::Global;
 

@@ -1,11 +1,11 @@
-//! Tests of the callers in `example_callers`.
+//! Tests of the callers in `example_boxes`.
 
-use example_callers::audio::aac_config;
-use example_callers::chunks::append_short;
-use example_callers::numbers::aac_config_again;
-use example_callers::references::append_reference;
-use example_callers::sound::{audio_configuration, read_small_esds};
-use example_callers::times::append_decode_time;
+use example_boxes::audio::aac_config;
+use example_boxes::chunks::append_short;
+use example_boxes::numbers::aac_config_again;
+use example_boxes::references::append_reference;
+use example_boxes::sound::{audio_configuration, read_small_esds};
+use example_boxes::times::append_decode_time;
 use mp4_stream::{AacConfig, ByteCursor, Co64Box, DecoderSpecificDescriptor, Error, EsdsBox};
 use std::alloc::Global;
 use std::test::Fail;

@@ -1,7 +1,7 @@
 //! Tests of the iterator over the boxes of a buffer.
 
 use super::streams::kind_and_count;
-use example_callers::mark::MarkBox;
+use example_boxes::mark::MarkBox;
 use mp4_iterator::{Boxes, boxes_as, collect_boxes};
 use mp4_stream::{AnyBox, ByteCursor, Error, StreamBox};
 use std::alloc::Global;

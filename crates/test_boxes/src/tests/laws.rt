@@ -1,6 +1,6 @@
 //! Calls of the laws at concrete types. The calls do nothing. Their proofs show that these types keep the traits.
 
-use example_callers::mark::MarkBox;
+use example_boxes::mark::MarkBox;
 use mp4_stream::laws::{
     begins_with_header, boxes_follow_frames, cut_at_a_border, cut_inside_a_box, equal_boxes,
     equal_streams, has_normal_form, has_own_name, have_same_bytes, is_read_back,

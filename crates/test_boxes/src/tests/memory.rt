@@ -1,7 +1,7 @@
 //! Tests of refused memory, with allocators that have little memory.
 
 use super::streams::{any_ftyp, append_two};
-use example_callers::mark::MarkBox;
+use example_boxes::mark::MarkBox;
 use linked_list_allocator::LocalHeap;
 use mp4_stream::{
     AnyBox, BoxHeader, BoxType, Error, MfhdBox, WriteBox, write_box_header_ext, write_boxes,

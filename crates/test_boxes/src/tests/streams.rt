@@ -1,7 +1,7 @@
 //! Helpers that read and write lists of boxes, and a test of a list of a type from outside the codec.
 
-use example_callers::append_normal;
-use example_callers::mark::MarkBox;
+use example_boxes::append_normal;
+use example_boxes::mark::MarkBox;
 use mp4_stream::{AnyBox, ByteCursor, Error, StreamBox, read_boxes, read_boxes_as, write_boxes};
 use std::alloc::{Allocator, Global};
 use std::test::Fail;

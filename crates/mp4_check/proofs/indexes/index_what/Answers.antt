@@ -1,7 +1,7 @@
 use Rattle.std.proofs.Common.{◌∙◌, ap, sym, Result, Ok}
 use Rattle.mp4_check.specs.Indexes.{index_found}
 use Rattle.mp4_check.proofs.Outcomes.{if_some}
-use Rattle.mp4_extra_segments.specs.declared.sidx.Sidx.{Sidx}
+use Rattle.mp4_extra_samples.specs.declared.sidx.Sidx.{Sidx}
 use Rattle.mp4_frame.specs.Reading.{Fault}
 use Rattle.mp4_check.proofs.indexes.index_what.Goals as goal
 

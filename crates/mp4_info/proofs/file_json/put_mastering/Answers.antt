@@ -1,7 +1,7 @@
 use Rattle.std.proofs.Common.{OnOk, subst, sym}
 use Rattle.std.specs.Prelude.{codes}
 use Rattle.std.specs.declared.option.Option.{Option}
-use Rattle.mp4_extra_media.specs.declared.mdcv.Mdcv.{Mdcv}
+use Rattle.mp4_extra_pictures.specs.declared.mdcv.Mdcv.{Mdcv}
 use Rattle.mp4_info.specs.Members.{member, or_null}
 use Rattle.mp4_info.specs.TrackJson.{mastering_object}
 use Rattle.mp4_shown_json.specs.Tokens.{Puts}

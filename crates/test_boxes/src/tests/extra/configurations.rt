@@ -2,10 +2,11 @@
 //! it, writes it and returns the ending.
 
 use crate::tests::extra::{Ending, Outcome, UNFIT, WRITTEN, bytes_of, declared_ending};
-use mp4_extra::{
-    AtEnd, AvcConfig, AvcExtension, AvcFormat, AvcNalUnit, Avcc, Hdlr, Urn, VpDraftFormat,
-    VpFormat, Vpcc,
-};
+use mp4_extra_pictures::avcc::{AvcConfig, AvcExtension, AvcFormat, AvcNalUnit, Avcc};
+use mp4_extra_pictures::tail::AtEnd;
+use mp4_extra_pictures::vpcc::{VpDraftFormat, VpFormat, Vpcc};
+use mp4_extra_tracks::hdlr::Hdlr;
+use mp4_extra_tracks::urn::Urn;
 use mp4_stream::{Entries, FourCC};
 use std::alloc::{AllocError, Global};
 

@@ -1,7 +1,9 @@
 //! Elementary streams and their descriptors. A function makes a box, writes it and returns the ending.
 
 use crate::tests::extra::{Outcome, UNFIT, WRITTEN, bytes_of, declared_ending};
-use mp4_extra::{DecoderConfig, DecoderStream, Descriptor, EsDescriptor, EsFlags, EsOptions, Esds};
+use mp4_extra_sound::esds::{
+    DecoderConfig, DecoderStream, Descriptor, EsDescriptor, EsFlags, EsOptions, Esds,
+};
 use mp4_stream::Entries;
 use std::alloc::Global;
 

@@ -1,7 +1,10 @@
 //! Boxes of items and of channels. A function for each box makes it, writes it and returns the ending.
 
 use crate::tests::extra::{Ending, Outcome, UNFIT, WRITTEN, bytes_of, declared_ending};
-use mp4_extra::{ChannelStructure, Chnl, Infe, Ipma, ItemProperties, Pitm, PropertyAssociation};
+use mp4_extra_sound::chnl::{ChannelStructure, Chnl};
+use mp4_extra_tracks::infe::Infe;
+use mp4_extra_tracks::ipma::{Ipma, ItemProperties, PropertyAssociation};
+use mp4_extra_tracks::pitm::Pitm;
 use mp4_stream::{Entries, FourCC};
 use std::alloc::{AllocError, Global};
 

@@ -1,14 +1,18 @@
 //! Boxes with lists. A function for each box makes it, writes it and returns the ending.
 
 use crate::tests::extra::{Outcome, UNFIT, WRITTEN, bytes_of, declared_ending};
-use mp4_extra::{
-    Av1Config, Av1c, Colr, OfType, Pssh, Sbgp, SbgpEntry, Schm, Sdtp, SdtpEntry, Sidx, SidxEntry,
-    Tenc, TencPattern,
-};
-use mp4_extra_media::colr::NCLX;
+use crate::{Group, Line, Lines, Moment, Nested, Packed, Runs, Strings};
+use mp4_declared::OfType;
+use mp4_extra_pictures::av1c::{Av1Config, Av1c};
+use mp4_extra_pictures::colr::{Colr, NCLX};
+use mp4_extra_samples::sbgp::{Sbgp, SbgpEntry};
+use mp4_extra_samples::sdtp::{Sdtp, SdtpEntry};
+use mp4_extra_samples::sidx::{Sidx, SidxEntry};
+use mp4_extra_tracks::pssh::Pssh;
+use mp4_extra_tracks::schm::Schm;
+use mp4_extra_tracks::tenc::{Tenc, TencPattern};
 use mp4_stream::{Entries, FourCC};
 use std::alloc::{AllocError, Global};
-use test_extra::{Group, Line, Lines, Moment, Nested, Packed, Runs, Strings};
 
 /// Writes a profile of four bits to a field of three.
 fn av1c(alloc: Global) -> Outcome {

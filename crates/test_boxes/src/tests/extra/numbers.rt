@@ -1,9 +1,15 @@
 //! Boxes without lists.
 
 use crate::tests::extra::{Ending, declared_ending, ending_of};
-use mp4_extra::{Ac3Config, Colr, Cslg, Dac3, Nclx, Nmhd, OfType, Prft, Schm};
+use crate::{Numbers, Options, Packed, Range, RangeBox};
+use mp4_declared::OfType;
+use mp4_extra_pictures::colr::{Colr, Nclx};
+use mp4_extra_samples::cslg::Cslg;
+use mp4_extra_samples::prft::Prft;
+use mp4_extra_sound::dac3::{Ac3Config, Dac3};
+use mp4_extra_sound::nmhd::Nmhd;
+use mp4_extra_tracks::schm::Schm;
 use mp4_stream::FourCC;
-use test_extra::{Numbers, Options, Packed, Range, RangeBox};
 
 /// Makes a box of numbers. The parameters may be too large for their fields.
 fn numbers(medium: u32, kind: u8, level: u16) -> Numbers {

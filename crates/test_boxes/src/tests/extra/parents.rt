@@ -1,11 +1,11 @@
 //! Boxes that hold boxes.
 
 use crate::tests::extra::{Ending, bytes_of, declared_ending, ending_of};
+use crate::{Inner, Outer, Trep};
 use mp4_box_tree::DeclaredContainer;
 use mp4_stream::KeptBox;
 use mp4_stream::author::Declared;
 use std::alloc::{AllocError, Global};
-use test_extra::{Inner, Outer, Trep};
 
 /// A `trep` inside a `trep`.
 type Nested = DeclaredContainer<Trep, DeclaredContainer<Trep, KeptBox>>;

@@ -1,7 +1,9 @@
 //! An `ExtraBox` made of a box of its subject, and taken apart again.
 
 use crate::tests::extra::{Ending, ending_of};
-use mp4_extra::{ExtraBox, Frma, FrmaBox, Pasp, PaspBox, PictureBox, TrackBox};
+use mp4_extra::{ExtraBox, PictureBox, TrackBox};
+use mp4_extra_pictures::pasp::{Pasp, PaspBox};
+use mp4_extra_tracks::frma::{Frma, FrmaBox};
 use mp4_stream::FourCC;
 use std::alloc::Global;
 

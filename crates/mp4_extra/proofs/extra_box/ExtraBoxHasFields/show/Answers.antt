@@ -1,4 +1,4 @@
-use Rattle.mp4_extra.proofs.EqualTypes.{same_events}
+use Rattle.mp4_shown.proofs.EqualTypes.{same_events}
 use Rattle.mp4_extra.specs.ExtraBox.{extra_types}
 use Rattle.mp4_extra.specs.contracts.extra_box.ExtraBoxExtraDeclarations.TheImpl.{ghosts}
 use Rattle.mp4_extra.proofs.extra_box.ExtraBoxHasFields.show.Goals as goal

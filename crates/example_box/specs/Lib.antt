@@ -1,2 +1,0 @@
-pub mod Segment
-pub mod SegmentLaws

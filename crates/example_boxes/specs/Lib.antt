@@ -1,0 +1,4 @@
+pub mod Segment
+pub mod SegmentLaws
+pub mod Mark
+pub mod MarkLaws

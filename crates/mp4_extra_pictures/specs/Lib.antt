@@ -1,0 +1,10 @@
+pub mod ShownColour
+pub mod Counted
+pub mod CountedLaws
+pub mod Tail
+pub mod TailLaws
+pub mod ShownTail
+pub mod AvcProfile
+pub mod AvcLeast
+pub mod PictureBox
+pub mod PictureBoxLaws

@@ -1,0 +1,12 @@
+pub mod ShownBlocks
+pub mod ShownChannels
+pub mod ShownMapping
+pub mod ShownStreams
+pub mod Expandable
+pub mod ExpandableLaws
+pub mod Tagged
+pub mod TaggedLaws
+pub mod AudioConfig
+pub mod ShownDescriptors
+pub mod SoundBox
+pub mod SoundBoxLaws

@@ -1,0 +1,9 @@
+pub mod ShownSystem
+pub mod ShownValue
+pub mod ItemId
+pub mod ShownItems
+pub mod ShownHandler
+pub mod HandlerName
+pub mod HandlerNameLaws
+pub mod TrackBox
+pub mod TrackBoxLaws
