@@ -1,19 +1,17 @@
--- A file in its other form, and a second plan of it.
-use Rattle.std.proofs.Common.{◌≡◌, ℕ, ◌+◌, ◌<◌, ◌≤◌, inl, inr, List, [], ◌∷◌, ◌++◌, length, take, None, Some, Result}
-use Rattle.std.proofs.Common.{Err, refl, sym, ap, subst, ◌∙◌, below_more, arith}
-use Rattle.std.specs.Prelude.{◌⊎◌, IfSome, slice_index_or}
+-- A file in its other form.
+use Rattle.std.proofs.Common.{◌≡◌, ℕ, ◌+◌, ◌<◌, ◌≤◌, inl, inr, List, [], length, None, Some, Result, Err, refl, ap}
+use Rattle.std.proofs.Common.{subst, ◌∙◌, below_more, arith}
+use Rattle.std.specs.Prelude.{◌⊎◌, IfSome}
 use Rattle.std.specs.declared.option.Option.{Option}
 use Rattle.std.specs.Io.KnownBytes.{Appends}
 use Rattle.std.proofs.KnownBytes.{Appends-nil}
-use Rattle.std.proofs.lemmas.List.{take_more, take_all}
 use Rattle.mp4_movie.specs.Movies.{traks}
 use Rattle.mp4_movie.specs.declared.info.TrackInfo.{TrackInfo}
 use Rattle.mp4_walk.specs.FileBoxes.{boxes_of}
 use Rattle.mp4_remux.proofs.BothFiles.{IfInfos, infos_counted}
-use Rattle.mp4_remux.proofs.Plans.{spelled_push}
 use Rattle.mp4_remux.specs.Forms.{ChangesForm, HasEmptyTables, HasForm, IsFragmented, WroteForm}
 use Rattle.mp4_remux.specs.NewFiles.{NewFile, bytes_by, spelled_by}
-use Rattle.mp4_remux.specs.Pieces.{AreWithin, bytes_of, spelled}
+use Rattle.mp4_remux.specs.Pieces.{AreWithin, spelled}
 use Rattle.mp4_remux.specs.Whole.{KeepsMedia}
 use Rattle.mp4_remux.specs.WrittenPieces.{Begins}
 use Rattle.mp4_remux.specs.declared.forms.form.Form.{Form}
@@ -40,20 +38,6 @@ all_empty (Some C) n ts past are empty =
     let counted = infos_counted C 0 (traks (boxes_of C)) ts are in
     λ k less. empty k (omega (arith, past, counted, less))
 
--- a copy of one piece more
-pub twin_more : (B : List ℕ) (ps qs rs : List Piece) (i : ℕ) (p : Piece) → i < length ps → p ≡ slice_index_or ps i p
-    → spelled B qs ≡ spelled B (take i ps) → spelled B rs ≡ spelled B qs ++ bytes_of B p
-    → spelled B rs ≡ spelled B (take (i + 1) ps)
-twin_more B ps qs rs i p lt is front more =
-    more ∙ ap (λ (xs : List ℕ). xs ++ bytes_of B p) front
-    ∙ sym (ap (spelled B) (take_more ps i p lt ∙ ap (λ (x : Piece). take i ps ++ x ∷ []) (sym is))
-    ∙ spelled_push B (take i ps) p)
-
--- copies of all pieces
-pub twin_all : (B : List ℕ) (ps qs : List Piece) (i : ℕ) → length ps ≤ i → spelled B qs ≡ spelled B (take i ps)
-    → spelled B qs ≡ spelled B ps
-twin_all B ps qs i le front = front ∙ ap (spelled B) (take_all i ps le)
-
 -- nothing is written before a stop
 pub form_stopped : (A : Type 0) (f : Form) (r : Option (List ℕ)) (P : List ℕ → Type 0) (ps : List Piece)
     (out : Option (List ℕ)) (stop : Stop) → IfSome r (λ B. P B → WroteForm {A = A} f B ps out out (Err stop))
@@ -61,16 +45,15 @@ form_stopped A f None P ps out stop = tt
 form_stopped A f (Some B) P ps out (Refused x) = λ _. Appends-nil out
 form_stopped A f (Some B) P ps out (Failed e) = λ _. inl (Appends-nil out)
 
--- the new file by a second source and a second plan
+-- the new file by a second source
 pub form_again : {A : Type 0} (f : Form) (r again : Option (List ℕ)) (s : NewFile) (ps : List Piece)
-    (old new : Option (List ℕ)) (res : Result A Stop) → s.old ≡ again
-    → ((B : List ℕ) → spelled B s.pieces ≡ spelled B ps)
+    (old new : Option (List ℕ)) (res : Result A Stop) → s.old ≡ again → s.pieces ≡ ps
     → IfSome r (λ B. bytes_by s ≡ Some (spelled B ps) → WroteForm f B ps old new res)
     → IfSome r (λ B. again ≡ Some B → WroteForm f B ps old new res)
-form_again f None again s ps old new res is_old twin wrote = tt
-form_again f (Some B) again s ps old new res is_old twin wrote = λ same.
+form_again f None again s ps old new res is_old is_pieces wrote = tt
+form_again f (Some B) again s ps old new res is_old is_pieces wrote = λ same.
     wrote (ap (λ (o : Option (List ℕ)). spelled_by o s.pieces) (is_old ∙ same)
-    ∙ ap (λ (C : List ℕ). Some C) (twin B))
+    ∙ ap (λ (us : List Piece). Some (spelled B us)) is_pieces)
 
 -- the file in its other form, and its media
 pub form_of : (f : Form) (r s before after : Option (List ℕ)) (ps : List Piece) → before ≡ r → after ≡ s

@@ -54,32 +54,29 @@ unfolding spelled
 no_piece ps ss none B = ap (λ (qs : List Piece). spelled B qs ++ spliced_from B 0 ss) none
 
 -- the bytes up to a splice are planned, and its own
-pub one_splice : (B : List ℕ) (ps qs : List Piece) (at : ℕ) (ss : List Splice) (i : ℕ) (d : Splice) (R : List ℕ)
-    → i < length ss
-    → spelled B qs ≡ spelled B ps ++ piece B at ((get_or ss i d).begin - at) ++ (get_or ss i d).bytes.items
-    → spelled B ps ++ spliced_from B at (drop i ss) ≡ R
-    → spelled B qs ++ spliced_from B (get_or ss i d).end (drop (i + 1) ss) ≡ R
-one_splice B ps qs at ss i d R within push so_far =
-    let s = get_or ss i d in
+pub one_splice : (B : List ℕ) (ps qs : List Piece) (at : ℕ) (s : Splice) (ss rest : List Splice) (R : List ℕ)
+    → ss ≡ s ∷ rest → spelled B qs ≡ spelled B ps ++ piece B at (s.begin - at) ++ s.bytes.items
+    → spelled B ps ++ spliced_from B at ss ≡ R → spelled B qs ++ spliced_from B s.end rest ≡ R
+one_splice B ps qs at s ss rest R is push so_far =
     let front = spelled B ps in
     let old = piece B at (s.begin - at) in
     let new = s.bytes.items in
-    let rest = spliced_from B s.end (drop (i + 1) ss) in
-    ap (λ (xs : List ℕ). xs ++ rest) push
-    ∙ append_assoc (front ++ old) new rest
-    ∙ append_assoc front old (new ++ rest)
-    ∙ ap (λ (xs : List ℕ). front ++ xs) (sym (append_assoc old new rest))
-    ∙ ap (λ (ts : List Splice). front ++ spliced_from B at ts) (sym (drop_more ss i d within))
+    let after = spliced_from B s.end rest in
+    ap (λ (xs : List ℕ). xs ++ after) push
+    ∙ append_assoc (front ++ old) new after
+    ∙ append_assoc front old (new ++ after)
+    ∙ ap (λ (xs : List ℕ). front ++ xs) (sym (append_assoc old new after))
+    ∙ ap (λ (ts : List Splice). front ++ spliced_from B at ts) (sym is)
     ∙ so_far
 
 -- the bytes after the last splice are planned
-pub last_piece : (B : List ℕ) (ps qs : List Piece) (at n : ℕ) (ss : List Splice) (i : ℕ) (R : List ℕ) → n ≡ length B
-    → length ss ≤ i → spelled B qs ≡ spelled B ps ++ take (n - at) (drop at B)
-    → spelled B ps ++ spliced_from B at (drop i ss) ≡ R → spelled B qs ≡ R
-last_piece B ps qs at n ss i R long gone push so_far =
+pub last_piece : (B : List ℕ) (ps qs : List Piece) (at n : ℕ) (ss : List Splice) (R : List ℕ) → n ≡ length B
+    → ss ≡ [] → spelled B qs ≡ spelled B ps ++ take (n - at) (drop at B)
+    → spelled B ps ++ spliced_from B at ss ≡ R → spelled B qs ≡ R
+last_piece B ps qs at n ss R long gone push so_far =
     push
     ∙ ap (λ (xs : List ℕ). spelled B ps ++ xs) (ap (λ (k : ℕ). take (k - at) (drop at B)) long ∙ take_rest B at)
-    ∙ ap (λ (ts : List Splice). spelled B ps ++ spliced_from B at ts) (sym (drop_all i ss gone))
+    ∙ ap (λ (ts : List Splice). spelled B ps ++ spliced_from B at ts) (sym gone)
     ∙ so_far
 
 -- the splices of those of the edits es that pass the test, if the bytes of the file are known

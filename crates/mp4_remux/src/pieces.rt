@@ -13,5 +13,5 @@ pub use carried::{carries, carries_after};
 pub use holes::{Hole, are_equal_except};
 pub use piece::{Piece, are_within};
 pub use plan::{Place, Plan, PlanError};
-pub use source::PieceSource;
+pub use source::{PieceSource, new_file, shared};
 pub use write::write_pieces;

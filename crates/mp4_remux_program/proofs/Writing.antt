@@ -51,15 +51,15 @@ copied_file None n ps old new res same wrote = tt
 copied_file (Some B) n ps old new res same wrote = λ long.
     subst (λ (C : List ℕ). WroteFile C old new res) (same B long) wrote
 
--- the new file by a second source and a second plan
-pub by_again : {A : Type 0} (r again : Option (List ℕ)) (s : NewFile) (ps qs : List Piece) (old new : Option (List ℕ))
-    (res : Result A Stop) → s.old ≡ again → s.pieces ≡ qs
+-- the new file by a second source
+pub by_again : {A : Type 0} (r again : Option (List ℕ)) (s : NewFile) (ps : List Piece) (old new : Option (List ℕ))
+    (res : Result A Stop) → s.old ≡ again → s.pieces ≡ ps
     → IfSome r (λ B. bytes_by s ≡ Some (spelled B ps) → WrotePlan B ps old new res)
-    → IfSome r (λ B. again ≡ Some B → spelled B qs ≡ spelled B ps → WrotePlan B ps old new res)
-by_again None again s ps qs old new res is_old is_pieces wrote = tt
-by_again (Some B) again s ps qs old new res is_old is_pieces wrote = λ same twin.
+    → IfSome r (λ B. again ≡ Some B → WrotePlan B ps old new res)
+by_again None again s ps old new res is_old is_pieces wrote = tt
+by_again (Some B) again s ps old new res is_old is_pieces wrote = λ same.
     wrote (ap (λ (o : Option (List ℕ)). spelled_by o s.pieces) (is_old ∙ same)
-    ∙ ap (λ (us : List Piece). Some (spelled B us)) is_pieces ∙ ap (λ (C : List ℕ). Some C) twin)
+    ∙ ap (λ (us : List Piece). Some (spelled B us)) is_pieces)
 
 kept : {A : Type 0} (B : List ℕ) (c : Move) (ps : List Piece) (old new : Option (List ℕ)) (res : Result A Stop)
     → MovesMovie B c (spelled B ps) → WrotePlan B ps old new res → WroteMoved B c old new res
@@ -68,25 +68,22 @@ kept B c ps old new (Err (Refused r)) moves wrote = wrote
 kept B c ps old new (Err (Failed f)) moves wrote = (spelled B ps, inr (c, moves), wrote)
 
 -- a plan of the file with its movie box moved
-pub moved_written : {A : Type 0} (r s again : Option (List ℕ)) (n : ℕ) (c : Move) (ps qs : List Piece)
-    (old new : Option (List ℕ)) (res : Result A Stop) → s ≡ r
-    → IfSome r (λ B. n ≡ length B → PlansMove B c ps × (spelled B qs ≡ spelled B ps))
-    → IfSome s (λ B. again ≡ Some B → spelled B qs ≡ spelled B ps → WrotePlan B ps old new res)
+pub moved_written : {A : Type 0} (r s again : Option (List ℕ)) (n : ℕ) (c : Move) (ps : List Piece)
+    (old new : Option (List ℕ)) (res : Result A Stop) → s ≡ r → IfSome r (λ B. n ≡ length B → PlansMove B c ps)
+    → IfSome s (λ B. again ≡ Some B → WrotePlan B ps old new res)
     → IfSome r (λ B. n ≡ length B → IsMove (boxes_of B) (length B) c → again ≡ Some B → WroteMoved B c old new res)
-moved_written None s again n c ps qs old new res sr plans wrote = tt
-moved_written (Some B) s again n c ps qs old new res sr plans wrote = λ long move same.
-    let both = plans long in
-    let plan = both.0 in
-    let wrote' : again ≡ Some B → spelled B qs ≡ spelled B ps → WrotePlan B ps old new res =
-    subst (λ (o : Option (List ℕ)). IfSome o (λ B. again ≡ Some B → spelled B qs ≡ spelled B ps
-    → WrotePlan B ps old new res)) sr wrote in
+moved_written None s again n c ps old new res sr plans wrote = tt
+moved_written (Some B) s again n c ps old new res sr plans wrote = λ long move same.
+    let plan = plans long in
+    let wrote' : again ≡ Some B → WrotePlan B ps old new res =
+    subst (λ (o : Option (List ℕ)). IfSome o (λ B. again ≡ Some B → WrotePlan B ps old new res)) sr wrote in
     let moves : MovesMovie B c (spelled B ps) = record {
       move = move;
       movie = plan.0;
       is_movie = plan.1;
       file = plan.2;
     } in
-    kept B c ps old new res moves (wrote' same both.1)
+    kept B c ps old new res moves (wrote' same)
 
 -- the file is copied
 pub start_copied : (r again : Option (List ℕ)) (n : ℕ) (old new : Option (List ℕ))

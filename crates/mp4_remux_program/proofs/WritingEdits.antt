@@ -1,7 +1,7 @@
 -- The output of a file that is edited.
 use Rattle.std.proofs.Common.{◌≡◌, ℕ, inl, inr, List, [], length, None, Some, Result, Ok, Err, refl, sym, ap, subst}
 use Rattle.std.proofs.Common.{◌∙◌}
-use Rattle.std.specs.Prelude.{IfOk, IfSome}
+use Rattle.std.specs.Prelude.{IfSome}
 use Rattle.std.specs.declared.option.Option.{Option}
 use Rattle.std.proofs.KnownBytes.{Appends-nil}
 use Rattle.mp4_remux.proofs.Beginnings.{nothing}
@@ -31,6 +31,13 @@ spliced_stopped A None again ss out stop = tt
 spliced_stopped A (Some B) again ss out (Refused x) = λ _. Appends-nil out
 spliced_stopped A (Some B) again ss out (Failed f) = λ _. ([], inl refl, nothing out [])
 
+pub over_stopped : (A : Type 0) (r again : Option (List ℕ)) (ps : List Piece) (ss : List Splice)
+    (out : Option (List ℕ)) (stop : Stop)
+    → IfSome r (λ B. again ≡ Some B → WroteSpliced {A = A} (spelled B ps) ss out out (Err stop))
+over_stopped A None again ps ss out stop = tt
+over_stopped A (Some B) again ps ss out (Refused x) = λ _. Appends-nil out
+over_stopped A (Some B) again ps ss out (Failed f) = λ _. ([], inl refl, nothing out [])
+
 pub named_stopped : (A : Type 0) (r again : Option (List ℕ)) (n : ℕ) (hidden ss : List Splice) (out : Option (List ℕ))
     (stop : Stop) → IfSome r (λ B. again ≡ Some B → n ≡ length B
     → WroteSpliced {A = A} (spliced B hidden) ss out out (Err stop))
@@ -44,22 +51,11 @@ edit_stopped A None again edits out stop = tt
 edit_stopped A (Some B) again edits out (Refused x) = λ _. Appends-nil out
 edit_stopped A (Some B) again edits out (Failed f) = λ _. ([], inl refl, nothing out [])
 
--- the source of a plan of a file after splices
-source_is : (r : Option (List ℕ)) (n : ℕ) (ss : List Splice) (ps : List Piece) (s : NewFile) → s.old ≡ r
-    → s.pieces ≡ ps → ((B : List ℕ) → n ≡ length B → spelled B ps ≡ spliced B ss)
-    → IfSome r (λ B. n ≡ length B → bytes_by s ≡ Some (spliced B ss))
-source_is None n ss ps s is_old is_pieces by = tt
-source_is (Some B) n ss ps s is_old is_pieces by = λ long.
-    ap (λ (o : Option (List ℕ)). spelled_by o s.pieces) is_old
-    ∙ ap (λ (us : List Piece). Some (spelled B us)) is_pieces
-    ∙ ap (λ (C : List ℕ). Some C) (by B long)
-
-pub spliced_source : (r : Option (List ℕ)) (n : ℕ) (ss : List Splice) (ps : List Piece) (res : Result NewFile Stop)
-    → IfOk res (λ s. s.old ≡ r) → IfOk res (λ s. s.pieces ≡ ps)
-    → ((B : List ℕ) → n ≡ length B → spelled B ps ≡ spliced B ss)
-    → IfOk res (λ s. IfSome r (λ B. n ≡ length B → bytes_by s ≡ Some (spliced B ss)))
-spliced_source r n ss ps (Ok s) is_old is_pieces by = source_is r n ss ps s is_old is_pieces by
-spliced_source r n ss ps (Err e) is_old is_pieces by = tt
+-- the source of a plan
+pub source_by : (r : Option (List ℕ)) (ps : List Piece) (s : NewFile) → s.old ≡ r → s.pieces ≡ ps
+    → bytes_by s ≡ spelled_by r ps
+source_by r ps s is_old is_pieces =
+    ap (λ (o : Option (List ℕ)). spelled_by o s.pieces) is_old ∙ ap (λ (us : List Piece). spelled_by r us) is_pieces
 
 as_new : {A : Type 0} (B : List ℕ) (ps : List Piece) (old new : Option (List ℕ)) (res : Result A Stop)
     → WrotePlan B ps old new res → WroteNew B (spelled B ps) old new res
@@ -73,16 +69,14 @@ new_written : {A : Type 0} (B C : List ℕ) (ps : List Piece) (old new : Option 
 new_written B C ps old new res is wrote =
     subst (λ (D : List ℕ). WroteNew B D old new res) is (as_new B ps old new res wrote)
 
-pub tops_written : {A : Type 0} (r again : Option (List ℕ)) (n : ℕ) (all : List Splice) (ps qs : List Piece)
+pub tops_written : {A : Type 0} (r again : Option (List ℕ)) (n : ℕ) (all : List Splice) (ps : List Piece)
     (old new : Option (List ℕ)) (res : Result A Stop)
     → ((B : List ℕ) → n ≡ length B → spelled B ps ≡ spliced B all)
-    → ((B : List ℕ) → n ≡ length B → spelled B qs ≡ spliced B all)
-    → IfSome r (λ B. again ≡ Some B → spelled B qs ≡ spelled B ps → WrotePlan B ps old new res)
+    → IfSome r (λ B. again ≡ Some B → WrotePlan B ps old new res)
     → IfSome r (λ B. again ≡ Some B → n ≡ length B → WroteTops B all old new res)
-tops_written None again n all ps qs old new res first second wrote = tt
-tops_written (Some B) again n all ps qs old new res first second wrote = λ same long.
-    new_written B (spliced B all) ps old new res (first B long)
-    (wrote same (second B long ∙ sym (first B long)))
+tops_written None again n all ps old new res by wrote = tt
+tops_written (Some B) again n all ps old new res by wrote = λ same long.
+    new_written B (spliced B all) ps old new res (by B long) (wrote same)
 
 edited_by : {A : Type 0} (B : List ℕ) (ss all : List Splice) (old new : Option (List ℕ)) (res : Result A Stop)
     → AreTopsOf B ss all → WroteTops B all old new res → WroteSpliced B ss old new res
@@ -102,20 +96,26 @@ spliced_written (Some B) s again n ss all old new res is long tops wrote = λ sa
     subst (λ (o : Option (List ℕ)). IfSome o (λ B. again ≡ Some B → n ≡ length B → WroteTops B all old new res)) is
     wrote in edited_by B ss all old new res tops (wrote' same long)
 
--- the sources are the file after the hidden splices
-pub named_written : {A : Type 0} (r again first second : Option (List ℕ)) (n : ℕ) (hidden ss : List Splice)
-    (old new : Option (List ℕ)) (res : Result A Stop)
-    → IfSome r (λ B. n ≡ length B → first ≡ Some (spliced B hidden))
-    → IfSome again (λ B. n ≡ length B → second ≡ Some (spliced B hidden))
+-- the sources are what a plan spells out
+pub over_written : {A : Type 0} (r again first second : Option (List ℕ)) (ps : List Piece) (ss : List Splice)
+    (old new : Option (List ℕ)) (res : Result A Stop) → first ≡ spelled_by r ps → second ≡ spelled_by again ps
     → IfSome first (λ C. second ≡ Some C → WroteSpliced C ss old new res)
+    → IfSome r (λ B. again ≡ Some B → WroteSpliced (spelled B ps) ss old new res)
+over_written None again first second ps ss old new res is_first is_second wrote = tt
+over_written (Some B) again first second ps ss old new res is_first is_second wrote = λ same.
+    let wrote' : second ≡ Some (spelled B ps) → WroteSpliced (spelled B ps) ss old new res =
+    subst (λ (o : Option (List ℕ)). IfSome o (λ C. second ≡ Some C → WroteSpliced C ss old new res)) is_first
+    wrote in wrote' (is_second ∙ ap (λ (o : Option (List ℕ)). spelled_by o ps) same)
+
+-- the plan is the file after the hidden splices
+pub named_written : {A : Type 0} (r again : Option (List ℕ)) (n : ℕ) (hidden ss : List Splice) (ps : List Piece)
+    (old new : Option (List ℕ)) (res : Result A Stop)
+    → ((B : List ℕ) → n ≡ length B → spelled B ps ≡ spliced B hidden)
+    → IfSome r (λ B. again ≡ Some B → WroteSpliced (spelled B ps) ss old new res)
     → IfSome r (λ B. again ≡ Some B → n ≡ length B → WroteSpliced (spliced B hidden) ss old new res)
-named_written None again first second n hidden ss old new res firsts seconds wrote = tt
-named_written (Some B) again first second n hidden ss old new res firsts seconds wrote = λ same long.
-    let seconds' : n ≡ length B → second ≡ Some (spliced B hidden) =
-    subst (λ (o : Option (List ℕ)). IfSome o (λ B. n ≡ length B → second ≡ Some (spliced B hidden))) same seconds in
-    let wrote' : second ≡ Some (spliced B hidden) → WroteSpliced (spliced B hidden) ss old new res =
-    subst (λ (o : Option (List ℕ)). IfSome o (λ C. second ≡ Some C → WroteSpliced C ss old new res)) (firsts long)
-    wrote in wrote' (seconds' long)
+named_written None again n hidden ss ps old new res by wrote = tt
+named_written (Some B) again n hidden ss ps old new res by wrote = λ same long.
+    subst (λ (C : List ℕ). WroteSpliced C ss old new res) (by B long) (wrote same)
 
 of_edits : {A : Type 0} (B : List ℕ) (edits : List Edit) (hidden ss : List Splice) (old new : Option (List ℕ))
     (res : Result A Stop) → AreNamed B edits hidden ss → AreInOrder (length B) hidden

@@ -14,7 +14,8 @@ use crate::rewriting::{Names, Opened, after_line, misuse_of_input, open_source, 
 use crate::write_forms::write_fragments;
 use mp4_command::escaped;
 use mp4_io::{Failure, Output, Steady};
-use mp4_remux::forms::{FragmentOptions, Fragmented, plan_fragments};
+use mp4_remux::forms::{FragmentOptions, FragmentPart, Fragmented, plan_fragments};
+use mp4_remux::pieces::Plan;
 use std::alloc::{AllocError, Global};
 use std::fs::{File, OpenOptions, Permissions};
 use std::io::{ErrorKind, Write};
@@ -116,10 +117,14 @@ impl<'a> Write for Segments<'a> {
 }
 
 /// Returns the lengths of the files: of the initialization segment, and of each segment.
-fn lengths_of(alloc: Global, fragmented: &Fragmented) -> Result<Vec<u64>, AllocError> {
+fn lengths_of(
+    alloc: Global,
+    init_length: u64,
+    parts: &[FragmentPart],
+) -> Result<Vec<u64>, AllocError> {
     let mut lengths = Vec::new(alloc);
-    lengths.push(fragmented.init_length)?;
-    for part in &fragmented.parts {
+    lengths.push(init_length)?;
+    for part in parts {
         lengths.push(part.length)?;
     }
     Ok(lengths)
@@ -192,29 +197,28 @@ fn fill(file: &mut File, bytes: &[u8]) -> io::Result<()> {
 fn write_playlist(
     rt: &HostRuntime,
     folder: &str,
-    fragmented: &Fragmented,
+    parts: &[FragmentPart],
+    scale: u32,
     mode: u32,
 ) -> io::Result<()> {
-    let text = playlist_of(rt.alloc(), &fragmented.parts, fragmented.scale)?;
+    let text = playlist_of(rt.alloc(), parts, scale)?;
     let mut file = create_in(rt, folder, PLAYLIST, mode)?;
     fill(&mut file, text.as_str().as_bytes())
 }
 
-/// Writes the segments to `folder`. Returns the last error of writing with the reason for stopping.
+/// Writes the segments to `folder`, which have these lengths. Returns the last error of writing with the reason for
+/// stopping.
 fn write_media(
     rt: &HostRuntime,
     folder: &str,
-    fragmented: &Fragmented,
+    plan: Plan,
+    lengths: &[u64],
     opened: &mut Opened,
 ) -> Result<(), (Stop, Option<io::Error>)> {
-    let lengths = match lengths_of(rt.alloc(), fragmented) {
-        Ok(lengths) => lengths,
-        Err(_) => return Err((Stop::Failed(Failure::Memory), None)),
-    };
     let segments = Segments {
         rt: *rt,
         folder,
-        lengths: lengths.as_slice(),
+        lengths,
         mode: opened.mode,
         begun: 0,
         left: 0,
@@ -225,7 +229,7 @@ fn write_media(
         rt.alloc(),
         &mut opened.first,
         &mut opened.second,
-        &fragmented.plan,
+        plan,
         &mut output,
     );
     output.inner.inner.clear();
@@ -240,24 +244,33 @@ fn write_folder(
     rt: &HostRuntime,
     names: Names<'_>,
     folder: &str,
-    fragmented: &Fragmented,
+    fragmented: Fragmented,
     mut opened: Opened,
-) -> Outcome {
+) -> Result<Outcome, Failure> {
+    let Fragmented {
+        plan,
+        init_length,
+        scale,
+        parts,
+    } = fragmented;
     let mode = opened.mode;
-    if let Err((stop, error)) = write_media(rt, folder, fragmented, &mut opened) {
+    let Ok(lengths) = lengths_of(rt.alloc(), init_length, &parts) else {
+        return Err(Failure::Memory);
+    };
+    if let Err((stop, error)) = write_media(rt, folder, plan, &lengths, &mut opened) {
         let run: Result<(), Stop> = Err(stop);
         let outcome = Outcome::of_run(&run);
         if let Err(stop) = run {
             tell_stop(rt, names, &stop, opened, error);
         }
-        return outcome;
+        return Ok(outcome);
     }
-    if let Err(error) = write_playlist(rt, folder, fragmented, mode) {
-        return tell(rt, names.shown_to, &error);
+    if let Err(error) = write_playlist(rt, folder, &parts, scale, mode) {
+        return Ok(tell(rt, names.shown_to, &error));
     }
     match fs::rename(rt, folder, names.to) {
-        Ok(()) => Outcome::Written,
-        Err(error) => tell(rt, names.shown_to, &error),
+        Ok(()) => Ok(Outcome::Written),
+        Err(error) => Ok(tell(rt, names.shown_to, &error)),
     }
 }
 
@@ -291,12 +304,13 @@ fn write_all_segments(
         Ok(folder) => folder,
         Err(error) => return Ok(tell(rt, names.shown_to, &error)),
     };
-    let outcome = write_folder(rt, names, folder.as_str(), &fragmented, opened);
-    if outcome != Outcome::Written {
+    let count = fragmented.parts.len();
+    let outcome = write_folder(rt, names, folder.as_str(), fragmented, opened);
+    if !matches!(outcome, Ok(Outcome::Written)) {
         let _ = fs::remove_dir_all(rt, &folder);
-        return Ok(outcome);
+        return outcome;
     }
-    tell_written(rt, names.shown_to, fragmented.parts.len())
+    tell_written(rt, names.shown_to, count)
 }
 
 /// Writes the fragments of the file `from` as segments to the folder `to`.

@@ -7,7 +7,7 @@ use crate::write_edit::write_edited;
 use crate::write_forms::{write_fragments, write_tables};
 use mp4_io::Output;
 use mp4_remux::edits::{Shortcut, edits_of};
-use mp4_remux::forms::{FragmentOptions, plan_fragments, plan_tables};
+use mp4_remux::forms::{Defragmented, FragmentOptions, Fragmented, plan_fragments, plan_tables};
 use mp4_walk::Source;
 use std::alloc::Global;
 use std::fmt;
@@ -110,9 +110,14 @@ fn fragment<S: Source, T: Source, W: Write>(
     second: T,
     output: &mut Output<W>,
 ) -> Result<Done, Stop> {
-    let fragmented = plan_fragments(alloc, &mut *first, options)?;
-    write_fragments(alloc, first, second, &fragmented.plan, output)?;
-    Ok(Done::Fragmented(fragmented.parts.len()))
+    let Fragmented {
+        plan,
+        init_length: _,
+        scale: _,
+        parts,
+    } = plan_fragments(alloc, &mut *first, options)?;
+    write_fragments(alloc, first, second, plan, output)?;
+    Ok(Done::Fragmented(parts.len()))
 }
 
 /// Writes the file `first` with its samples in tables. `second` is the same file.
@@ -122,12 +127,13 @@ fn defragment<S: Source, T: Source, W: Write>(
     second: T,
     output: &mut Output<W>,
 ) -> Result<Done, Stop> {
-    let joined = plan_tables(alloc, &mut *first)?;
-    write_tables(alloc, first, second, &joined.plan, output)?;
-    Ok(Done::Joined {
-        fragments: joined.fragments,
-        samples: joined.samples,
-    })
+    let Defragmented {
+        plan,
+        fragments,
+        samples,
+    } = plan_tables(alloc, &mut *first)?;
+    write_tables(alloc, first, second, plan, output)?;
+    Ok(Done::Joined { fragments, samples })
 }
 
 /// Carries out `task` with the file `first`. `second` is the same file, since the old and the new file are compared.

@@ -1,6 +1,6 @@
 //! Writing a file whose movie box is moved.
 
-ghost use Rattle.std.specs.Prelude.{◌≡◌, Some, length, IfOk, IfSome};
+ghost use Rattle.std.specs.Prelude.{◌≡◌, Some, length, IfSome};
 ghost use Rattle.mp4_remux_program.specs.Places.{IsMove, IsPlaced};
 ghost use Rattle.mp4_remux_program.specs.Written.{WroteFastStart, WroteFile, WroteMoved, WrotePlan};
 ghost use Rattle.mp4_remux.specs.NewFiles.{bytes_by};
@@ -12,11 +12,12 @@ use crate::place::placed;
 use crate::planning::{plan_copy, plan_move};
 use crate::refusal::{Refusal, Stop};
 use mp4_io::Output;
-use mp4_remux::pieces::{PieceSource, Plan, write_pieces};
+use mp4_remux::pieces::{PieceSource, Plan, new_file, shared, write_pieces};
 use mp4_remux::write_checked;
 use mp4_walk::Source;
 use std::alloc::Global;
 use std::io::Write;
+use std::rc::Rc;
 
 /// Writes what `plan` spells out over `source`.
 fn write_plan<S: Source, W: Write>(
@@ -69,34 +70,37 @@ fn write_kept<S: Source, T: Source, W: Write>(
     }
 }
 
-/// Returns a source of what `plan` spells out over the file `again`.
-pub fn new_file<T: Source>(again: T, plan: Plan) -> Result<PieceSource<T>, Stop>
-    ensures old { IfOk result (λ s. s.old ≡ T.all again) }
-    ensures pieces { IfOk result (λ s. s.pieces ≡ plan) }
+/// Writes what `plan` spells out over `source`, if it keeps the media. `again` is a second source of the same file.
+fn write_shared<S: Source, T: Source, W: Write>(
+    alloc: Global,
+    source: S,
+    again: T,
+    plan: &Rc<Plan>,
+    output: &mut Output<W>,
+) -> Result<(), Stop>
+    ensures { IfSome (S.all source) (λ B. T.all again ≡ Some B
+        → WrotePlan B plan.now.value (W.contents output.old.inner) (W.contents output.new.inner) result) }
 {
-    match PieceSource::new(again, plan) {
-        Ok(Some(new)) => Ok(new),
-        Ok(None) => Err(Stop::Refused(Refusal::Media(mp4_remux::Refusal::Pieces))),
-        Err(error) => Err(Stop::from(error)),
+    match new_file(again, plan) {
+        Ok(new) => write_kept(alloc, source, new, plan, output),
+        Err(stop) => Err(Stop::from(stop)),
     }
 }
 
-/// Writes what `plan` spells out over `source`, if it keeps the media. `again` is a second source of the same file, and
-/// `twin` a second plan of the same new file.
+/// Writes what `plan` spells out over `source`, if it keeps the media. `again` is a second source of the same file.
 pub fn write_by<S: Source, T: Source, W: Write>(
     alloc: Global,
     source: S,
     again: T,
-    plan: &Plan,
-    twin: Plan,
+    plan: Plan,
     output: &mut Output<W>,
 ) -> Result<(), Stop>
-    ensures { IfSome (S.all source) (λ B. T.all again ≡ Some B → spelled B twin ≡ spelled B plan.now
-        → WrotePlan B plan.now (W.contents output.old.inner) (W.contents output.new.inner) result) }
+    ensures { IfSome (S.all source) (λ B. T.all again ≡ Some B
+        → WrotePlan B plan (W.contents output.old.inner) (W.contents output.new.inner) result) }
 {
-    match new_file(again, twin) {
-        Ok(new) => write_kept(alloc, source, new, plan, output),
-        Err(stop) => Err(stop),
+    match shared(alloc, plan) {
+        Ok(plan) => write_shared(alloc, source, again, &plan, output),
+        Err(stop) => Err(Stop::from(stop)),
     }
 }
 
@@ -115,7 +119,7 @@ fn write_moved<S: Source, T: Source, W: Write>(
 {
     let mut source = source;
     match plan_move(alloc, &mut source, size, shift) {
-        Ok((plan, twin)) => write_by(alloc, source, again, &plan, twin, output),
+        Ok(plan) => write_by(alloc, source, again, plan, output),
         Err(stop) => Err(stop),
     }
 }
@@ -150,8 +154,9 @@ fn write_as<S: Source, T: Source, W: Write>(
 /// file has no `mdat`, writes the file as it is and returns `None`. `again` is a second source of the same file, since
 /// the old and the new file are compared. Every track keeps its samples, all bytes outside the `moov` are the same, and
 /// so are those of the `moov` except for its offsets. After a refusal nothing is written, and after a failure a
-/// beginning of the file. Needs the memory of three `moov`s, of the boxes of both files, of the sample tables of one
-/// track in both, and a block of 1 MiB.
+/// beginning of the file. Needs the memory of two `moov`s, or of the offsets of one, of the sample tables of one track
+/// in both files, and of its largest table. In both cases it also needs the memory of the boxes of both files, and a
+/// block of 1 MiB.
 pub fn write_fast_start<S: Source, T: Source, W: Write>(
     alloc: Global,
     source: S,

@@ -19,11 +19,11 @@ fn write_in<S: Source, T: Source, W: Write>(
     form: Form,
     source: S,
     again: T,
-    plan: &Plan,
+    plan: Plan,
     output: &mut Output<W>,
 ) -> Result<(), Stop>
     ensures { IfSome (S.all source) (λ B. T.all again ≡ Some B
-        → WroteIn form B plan.now (W.contents output.old.inner) (W.contents output.new.inner) result) }
+        → WroteIn form B plan (W.contents output.old.inner) (W.contents output.new.inner) result) }
 {
     match write_form(alloc, form, source, again, plan, output) {
         Ok(()) => Ok(()),
@@ -39,11 +39,11 @@ pub fn write_fragments<S: Source, T: Source, W: Write>(
     alloc: Global,
     source: S,
     again: T,
-    plan: &Plan,
+    plan: Plan,
     output: &mut Output<W>,
 ) -> Result<(), Stop>
     ensures { IfSome (S.all source) (λ B. T.all again ≡ Some B
-        → WroteIn forms.Fragments B plan.now (W.contents output.old.inner) (W.contents output.new.inner) result) }
+        → WroteIn forms.Fragments B plan (W.contents output.old.inner) (W.contents output.new.inner) result) }
 {
     write_in(alloc, Form::Fragments, source, again, plan, output)
 }
@@ -55,11 +55,11 @@ pub fn write_tables<S: Source, T: Source, W: Write>(
     alloc: Global,
     source: S,
     again: T,
-    plan: &Plan,
+    plan: Plan,
     output: &mut Output<W>,
 ) -> Result<(), Stop>
     ensures { IfSome (S.all source) (λ B. T.all again ≡ Some B
-        → WroteIn forms.Tables B plan.now (W.contents output.old.inner) (W.contents output.new.inner) result) }
+        → WroteIn forms.Tables B plan (W.contents output.old.inner) (W.contents output.new.inner) result) }
 {
     write_in(alloc, Form::Tables, source, again, plan, output)
 }

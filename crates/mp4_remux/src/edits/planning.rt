@@ -23,31 +23,37 @@ fn push(plan: &mut Plan, piece: Piece) -> Result<(), Stop>
 }
 
 /// Adds to `plan` the bytes of the old file from position `at` up to `splice`, and then its bytes.
-fn push_splice(alloc: Global, plan: &mut Plan, at: u64, splice: &Splice) -> Result<(), Stop>
+fn push_splice(plan: &mut Plan, at: u64, splice: Splice) -> Result<(), Stop>
     ensures { OnOk result ((B : List ℕ) → spelled B plan.new
-        ≡ spelled B plan.old ++ piece B at (splice.now.begin - at) ++ splice.now.bytes.items) }
+        ≡ spelled B plan.old ++ piece B at (splice.begin - at) ++ splice.bytes.items) }
 {
+    let Splice {
+        depth: _,
+        begin,
+        end: _,
+        bytes,
+    } = splice;
     push(
         plan,
         Piece::Old {
             begin: at,
-            end: splice.begin,
+            end: begin,
         },
     )?;
-    let bytes = Vec::from_slice(alloc, splice.bytes.as_slice())?;
     push(plan, Piece::New(bytes))
 }
 
 /// Plans a file of length `size` after `splices`, which are in order.
-pub fn plan_spliced(alloc: Global, size: u64, splices: &[Splice]) -> Result<Plan, Stop>
+pub fn plan_spliced(alloc: Global, size: u64, splices: Vec<Splice>) -> Result<Plan, Stop>
     ensures { IfOk result
-        (λ plan. (B : List ℕ) → size ≡ length B → spelled B plan ≡ spliced B splices.now) }
+        (λ plan. (B : List ℕ) → size ≡ length B → spelled B plan ≡ spliced B splices.items) }
 {
     let mut plan = Plan::new(alloc);
     let mut at: u64 = 0;
     for splice in splices {
-        match push_splice(alloc, &mut plan, at, splice) {
-            Ok(()) => at = splice.end,
+        let end = splice.end;
+        match push_splice(&mut plan, at, splice) {
+            Ok(()) => at = end,
             Err(stop) => return Err(stop),
         }
     }

@@ -208,14 +208,15 @@ fn add_tables(all: &mut AllTables, tables: TrackTables) -> Result<(), FormStop> 
     Ok(())
 }
 
-/// Returns the new tables of all `tracks`, whose fragments are `fragments`.
+/// Returns the new tables of all `tracks`, whose fragments are `fragments`. Frees the fragments, since they take more
+/// memory than the new tables.
 fn all_tables<S: Source>(
     alloc: Global,
     walk: &mut BoxWalk<S>,
     boxes: &[TreeBox],
     tracks: &[Track],
     parts: &[TrackParts],
-    fragments: &Groups,
+    fragments: Groups,
     length: u64,
 ) -> Result<AllTables, Stop> {
     let groups = fragment_groups(alloc, walk, boxes)?;
@@ -467,7 +468,7 @@ fn plan_joined<S: Source>(
 ) -> Result<Defragmented, Stop> {
     let parts = parts_of(alloc, boxes)?;
     let scale = movie_scale(alloc, walk, boxes)?;
-    let mut all = all_tables(alloc, walk, boxes, tracks, &parts, &groups, length)?;
+    let mut all = all_tables(alloc, walk, boxes, tracks, &parts, groups, length)?;
     all.places.sort_unstable();
     let durations = durations_of(alloc, tracks, &parts, &all.facts, scale)?;
     let plan = plan_file(alloc, walk, boxes, &mut all, &durations)?;

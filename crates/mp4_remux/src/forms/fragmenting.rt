@@ -7,7 +7,7 @@ use crate::forms::fragment_index::{push_mfra, push_sidx};
 use crate::forms::fragment_part::FragmentPart;
 use crate::forms::moof::{Run, push_moof};
 use crate::forms::movie_copy::{NewMovie, copy_movie};
-use crate::forms::new_bytes::{begin_box, end_box, push_box, push_media_header, push_u32};
+use crate::forms::new_bytes::{begin_box, end_box, push_box, push_u32};
 use crate::forms::obstacles::{check_boxes, check_tops};
 use crate::forms::ranges::Ranges;
 use crate::forms::refusal::{FormRefusal, FormStop};
@@ -243,7 +243,6 @@ fn headers_of(
         push_styp(&mut bytes)?;
     }
     push_moof(alloc, &mut bytes, sequence, runs, ranges)?;
-    push_media_header(&mut bytes, ranges.length)?;
     Ok(bytes)
 }
 

@@ -1,6 +1,8 @@
 //! A movie fragment: the `moof`, and the ranges of the old file that are its data.
 
-use crate::forms::new_bytes::{begin_box, end_box, media_header_length, push_box};
+use crate::forms::new_bytes::{
+    begin_box, end_box, media_header_length, push_box, push_media_header,
+};
 use crate::forms::ranges::Ranges;
 use crate::forms::refusal::{FormRefusal, FormStop};
 use crate::forms::sample_groups::Grouping;
@@ -345,8 +347,8 @@ fn moof_length(trafs: &[Traf]) -> u64 {
     length
 }
 
-/// Appends the `moof` with the number `sequence` that has these runs. The data of the runs follow each other in the
-/// `mdat` after it.
+/// Appends the `moof` with the number `sequence` that has these runs, and the header of the `mdat` after it, in which
+/// the data of the runs follow each other. Takes no more memory than both have bytes.
 pub(crate) fn push_moof(
     alloc: Global,
     out: &mut Vec<u8>,
@@ -356,6 +358,7 @@ pub(crate) fn push_moof(
 ) -> Result<(), FormStop> {
     let mut trafs = trafs_of(alloc, runs)?;
     let mut offset = moof_length(&trafs).saturating_add(media_header_length(media.length));
+    out.reserve_exact(offset as usize)?;
     let at = begin_box(out, codes::MOOF)?;
     let header = MfhdBox {
         version: 0,
@@ -367,5 +370,6 @@ pub(crate) fn push_moof(
         traf.write(out, offset, sequence)?;
         offset = offset.saturating_add(traf.bytes);
     }
-    end_box(out, at, codes::MOOF)
+    end_box(out, at, codes::MOOF)?;
+    Ok(push_media_header(out, media.length)?)
 }

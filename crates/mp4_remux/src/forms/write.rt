@@ -1,6 +1,6 @@
 //! Writing a file in its other form.
 
-ghost use Rattle.std.specs.Prelude.{◌≡◌, ◌++◌, ℕ, List, None, Some, IfOk, IfSome, OnOk};
+ghost use Rattle.std.specs.Prelude.{◌≡◌, None, Some, IfOk, IfSome, OnOk};
 ghost use Rattle.mp4_frame.specs.FourCC.{four_cc_of};
 ghost use Rattle.mp4_frame.specs.declared.codes.TheConstants as codes;
 ghost use Rattle.mp4_movie.specs.Levels.{first_in};
@@ -8,19 +8,20 @@ ghost use Rattle.mp4_walk.specs.FileBoxes.{boxes_of};
 ghost use Rattle.mp4_remux.specs.Forms.{ChangesForm, HasEmptyTables, HasForm, IsFragmented, WroteForm, listed};
 ghost use Rattle.mp4_remux.specs.NewFiles.{bytes_by};
 ghost use Rattle.mp4_remux.specs.declared.forms.form.Form.{Form};
-ghost use Rattle.mp4_remux.specs.Pieces.{bytes_of, spelled};
+ghost use Rattle.mp4_remux.specs.Pieces.{spelled};
 
 use crate::forms::form::Form;
 use crate::forms::refusal::FormRefusal;
 use crate::keeps::keeps_media;
-use crate::pieces::{Piece, PieceSource, Plan, PlanError, write_pieces};
+use crate::pieces::{PieceSource, Plan, new_file, shared, write_pieces};
 use crate::refusal::{Refusal, Stop, TrackPlace, in_track};
 use mp4_frame::codes;
-use mp4_io::{Failure, Output};
+use mp4_io::Output;
 use mp4_movie::{Movie, SampleBoxes, first_in};
 use mp4_walk::{Source, TreeBox};
 use std::alloc::Global;
 use std::io::Write;
+use std::rc::Rc;
 
 /// Returns the number of samples in `tables`, or 0 if there are none.
 fn listed(tables: &Option<SampleBoxes>) -> u32
@@ -162,56 +163,22 @@ fn write_new<S: Source, T: Source, W: Write>(
     }
 }
 
-/// Returns a copy of `piece`.
-fn copy_of(alloc: Global, piece: &Piece) -> Result<Piece, Stop>
-    ensures { IfOk result (λ p. (B : List ℕ) → bytes_of B p ≡ bytes_of B piece.now) }
+/// Writes the new file that `plan` spells out over `source`, if it is that file in `form`. `again` is a second source
+/// of the same file.
+fn write_shared<S: Source, T: Source, W: Write>(
+    alloc: Global,
+    form: Form,
+    source: S,
+    again: T,
+    plan: &Rc<Plan>,
+    output: &mut Output<W>,
+) -> Result<(), Stop>
+    ensures { IfSome (S.all source) (λ B. T.all again ≡ Some B
+        → WroteForm form B plan.now.value (W.contents output.old.inner) (W.contents output.new.inner) result) }
 {
-    match piece {
-        Piece::New(bytes) => match Vec::from_slice(alloc, bytes.as_slice()) {
-            Ok(copy) => Ok(Piece::New(copy)),
-            Err(_) => Err(Stop::Failed(Failure::Memory)),
-        },
-        Piece::Old { begin, end } => Ok(Piece::Old {
-            begin: *begin,
-            end: *end,
-        }),
-    }
-}
-
-/// Adds a copy of `piece` to `twin`.
-fn push_copy(alloc: Global, twin: &mut Plan, piece: &Piece) -> Result<(), Stop>
-    ensures { OnOk result ((B : List ℕ) → spelled B twin.new ≡ spelled B twin.old ++ bytes_of B piece.now) }
-{
-    let copy = copy_of(alloc, piece)?;
-    match twin.push(copy) {
-        Ok(()) => Ok(()),
-        Err(PlanError::TooLong) => Err(Stop::from(FormRefusal::Long)),
-        Err(PlanError::Memory) => Err(Stop::Failed(Failure::Memory)),
-    }
-}
-
-/// Returns a second plan of the file that `plan` spells out.
-fn twin_of(alloc: Global, plan: &Plan) -> Result<Plan, Stop>
-    ensures { IfOk result (λ twin. (B : List ℕ) → spelled B twin ≡ spelled B plan.now) }
-{
-    let mut twin = Plan::new(alloc);
-    let pieces = plan.pieces();
-    for piece in pieces {
-        push_copy(alloc, &mut twin, piece)?;
-    }
-    Ok(twin)
-}
-
-/// Returns a source of the file that `plan` spells out over `again`.
-fn new_file<T: Source>(alloc: Global, again: T, plan: &Plan) -> Result<PieceSource<T>, Stop>
-    ensures old { IfOk result (λ s. s.old ≡ T.all again) }
-    ensures pieces { IfOk result (λ s. (B : List ℕ) → spelled B s.pieces ≡ spelled B plan.now) }
-{
-    let twin = twin_of(alloc, plan)?;
-    match PieceSource::new(again, twin) {
-        Ok(Some(new)) => Ok(new),
-        Ok(None) => Err(Stop::Refused(Refusal::Pieces)),
-        Err(error) => Err(Stop::from(error)),
+    match new_file(again, plan) {
+        Ok(new) => write_new(alloc, form, source, new, plan, output),
+        Err(stop) => Err(stop),
     }
 }
 
@@ -219,20 +186,20 @@ fn new_file<T: Source>(alloc: Global, again: T, plan: &Plan) -> Result<PieceSour
 /// order, each with the same times, sync flag, description and bytes, and if all samples are listed as in `form`.
 /// `again` is a second source of the same file, since the old and the new file are compared. After a refusal nothing is
 /// written, and after a failure a beginning of the new file. It does not matter how the plan was made. Needs the memory
-/// of a second plan, that of `keeps_media`, and a block of 1 MiB.
+/// that `keeps_media` does, and a block of 1 MiB.
 pub fn write_form<S: Source, T: Source, W: Write>(
     alloc: Global,
     form: Form,
     source: S,
     again: T,
-    plan: &Plan,
+    plan: Plan,
     output: &mut Output<W>,
 ) -> Result<(), Stop>
     ensures { IfSome (S.all source) (λ B. T.all again ≡ Some B
-        → WroteForm form B plan.now (W.contents output.old.inner) (W.contents output.new.inner) result) }
+        → WroteForm form B plan (W.contents output.old.inner) (W.contents output.new.inner) result) }
 {
-    match new_file(alloc, again, plan) {
-        Ok(new) => write_new(alloc, form, source, new, plan, output),
+    match shared(alloc, plan) {
+        Ok(plan) => write_shared(alloc, form, source, again, &plan, output),
         Err(stop) => Err(stop),
     }
 }

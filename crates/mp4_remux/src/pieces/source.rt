@@ -7,17 +7,21 @@ ghost use Rattle.mp4_remux.specs.Pieces.{AreWithin, bytes_of, long, spelled};
 
 use crate::pieces::piece::Piece;
 use crate::pieces::plan::Plan;
+use crate::refusal::{Refusal, Stop};
+use mp4_io::Failure;
 use mp4_walk::Source;
+use std::alloc::Global;
 use std::io;
 use std::io::ErrorKind;
 use std::marker::Model;
+use std::rc::Rc;
 
 /// The new file that a plan spells out over an old file. It is never made: each read finds the pieces and reads their
 /// bytes.
 #[derive(Drop)]
 pub struct PieceSource<S: Source> {
     old: S,
-    plan: Plan,
+    plan: Rc<Plan>,
 }
 
 impl<S: Source> Model for PieceSource<S> {
@@ -27,9 +31,9 @@ impl<S: Source> Model for PieceSource<S> {
 
     ghost Value = { NewFile };
 
-    ghost view = { λ s. record { old = S.all s.old; pieces = s.plan } };
+    ghost view = { λ s. record { old = S.all s.old; pieces = s.plan.value } };
 
-    ghost invariant = { λ s. IfSome (S.all s.old) (λ B. AreWithin (length B) s.plan) };
+    ghost invariant = { λ s. IfSome (S.all s.old) (λ B. AreWithin (length B) s.plan.value) };
 }
 
 /// Fills `buffer` with the bytes of the old file from `begin` to `end`, after the first `skip`.
@@ -120,11 +124,11 @@ fn fill<S: Source>(old: &mut S, plan: &Plan, at: u64, buffer: &mut [u8]) -> io::
 
 impl<S: Source> PieceSource<S> {
     /// Makes a source of `plan` over the file `old`. Returns `None` if a piece is not in that file.
-    pub fn new(old: S, plan: Plan) -> io::Result<Option<PieceSource<S>>>
+    pub fn new(old: S, plan: Rc<Plan>) -> io::Result<Option<PieceSource<S>>>
         ensures old { IfOk result (λ source. IfSome source (λ s. s.old ≡ S.all old)) }
-        ensures pieces { IfOk result (λ source. IfSome source (λ s. s.pieces ≡ plan)) }
+        ensures pieces { IfOk result (λ source. IfSome source (λ s. s.pieces ≡ plan.value)) }
         ensures within { IfOk result
-            (λ source. IfSome source (λ _. IfSome (S.all old) (λ B. AreWithin (length B) plan))) }
+            (λ source. IfSome source (λ _. IfSome (S.all old) (λ B. AreWithin (length B) plan.value))) }
     {
         let mut old = old;
         let length = old.length()?;
@@ -144,5 +148,28 @@ impl<S: Source> Source for PieceSource<S> {
 
     fn read_at(&mut self, at: u64, buffer: &mut [u8]) -> io::Result<()> {
         fill(&mut self.old, &self.plan, at, buffer)
+    }
+}
+
+/// Returns `plan` with room for several owners.
+pub fn shared(alloc: Global, plan: Plan) -> Result<Rc<Plan>, Stop>
+    ensures { IfOk result (λ shared. shared.value ≡ plan) }
+{
+    match Rc::new(alloc, plan) {
+        Ok(shared) => Ok(shared),
+        Err(_) => Err(Stop::Failed(Failure::Memory)),
+    }
+}
+
+/// Returns a source of the new file that `plan` spells out over the file `old`.
+pub fn new_file<T: Source>(old: T, plan: &Rc<Plan>) -> Result<PieceSource<T>, Stop>
+    ensures old { IfOk result (λ s. s.old ≡ T.all old) }
+    ensures pieces { IfOk result (λ s. s.pieces ≡ plan.now.value) }
+{
+    let plan = plan.clone()?;
+    match PieceSource::new(old, plan) {
+        Ok(Some(new)) => Ok(new),
+        Ok(None) => Err(Stop::Refused(Refusal::Pieces)),
+        Err(error) => Err(Stop::from(error)),
     }
 }

@@ -6,7 +6,7 @@ returns-in-Ok g c =
     spliced_written (g.S.Source.all c.args.source) (g.S.Source.all c.in-Ok.source) (g.T.Source.all c.args.again)
     c.in-Ok.size c.args.splices.items c.in-Ok.all.items (g.W.Write.contents c.args.output.now.inner)
     (g.W.Write.contents c.write_tops.new.output.inner) c.write_tops.result c.in-Ok.ensures.source
-    c.in-Ok.ensures.length c.in-Ok.ensures.splices (rw c.deref.ensures.value at c.write_tops.ensures)
+    c.in-Ok.ensures.length c.in-Ok.ensures.splices c.write_tops.ensures
 
 pub returns-in-Err : goal.returns-in-Err
 returns-in-Err g c =
