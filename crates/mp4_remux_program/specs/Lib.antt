@@ -10,3 +10,4 @@ pub mod EditedMovie
 pub mod EditedFile
 pub mod WrittenEdits
 pub mod WrittenForms
+pub mod Tasks

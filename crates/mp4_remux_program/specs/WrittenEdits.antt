@@ -1,11 +1,14 @@
 -- The output of a file that is edited.
-use Rattle.std.specs.Prelude.{ℕ, ◌≡◌, ◌⊎◌, List, [], Result, Ok, Err}
+use Rattle.std.specs.Prelude.{ℕ, ◌≡◌, ◌⊎◌, ◌++◌, All, List, [], Result, Ok, Err}
+use Rattle.std.specs.List.{flat_map}
 use Rattle.std.specs.declared.option.Option.{Option}
 use Rattle.std.specs.Io.KnownBytes.{Appends}
+use Rattle.mp4_remux.specs.Shortcuts.{HidesDropped, asked_by, dropped_by, other_by}
 use Rattle.mp4_remux.specs.Splices.{spliced}
 use Rattle.mp4_remux.specs.Whole.{KeepsMedia}
 use Rattle.mp4_remux.specs.WrittenPieces.{Begins}
 use Rattle.mp4_remux.specs.declared.edits.edit.Edit.{Edit}
+use Rattle.mp4_remux.specs.declared.edits.shortcut.Shortcut.{Shortcut}
 use Rattle.mp4_remux.specs.declared.edits.splice.Splice.{Splice}
 use Rattle.mp4_remux_program.specs.EditedFile.{EditsFile, IsEdited, IsEditOf}
 use Rattle.mp4_remux_program.specs.declared.refusal.Stop.{Stop}
@@ -35,3 +38,19 @@ abbrev pub WroteEdited : {A : Type 0} → List ℕ → List Edit → Option (Lis
 WroteEdited B edits old new (Ok _) = (C : List ℕ) × EditsFile B edits C × Appends old new C
 WroteEdited B edits old new (Err (Refused r)) = Appends old new []
 WroteEdited B edits old new (Err (Failed f)) = (C : List ℕ) × ((C ≡ []) ⊎ IsEditOf B edits C) × Begins old new C
+
+-- the edits for these shortcuts: first those that are edits themselves, and no box is hidden but those of tracks that
+-- the shortcuts drop
+pub record AreEditsFor (shortcuts : List Shortcut) (edits : List Edit) : Type 0 where
+  pub asked : (more : List Edit) × (edits ≡ flat_map asked_by shortcuts ++ more)
+  pub only : flat_map other_by shortcuts ≡ [] → edits ≡ flat_map asked_by shortcuts
+  pub dropped : All (HidesDropped (flat_map dropped_by shortcuts)) edits
+
+-- the same of edits for shortcuts
+abbrev pub WroteChanges : {A : Type 0} → List ℕ → List Shortcut → Option (List ℕ) → Option (List ℕ) → Result A Stop
+    → Type 0
+WroteChanges B ss old new (Ok _) =
+    (es : List Edit) × AreEditsFor ss es × ((C : List ℕ) × EditsFile B es C × Appends old new C)
+WroteChanges B ss old new (Err (Refused r)) = Appends old new []
+WroteChanges B ss old new (Err (Failed f)) =
+    (C : List ℕ) × ((C ≡ []) ⊎ ((es : List Edit) × AreEditsFor ss es × IsEditOf B es C)) × Begins old new C

@@ -29,13 +29,16 @@ pub struct Names<'a> {
     pub shown_to: &'a str,
 }
 
-/// The file that is read, opened twice, since the old file and the new one are read at the same time.
+/// The file that is read, opened three times, since the old file and the new one are read at the same time, and no
+/// clause says how a planner leaves the file that it reads.
 #[derive(Drop)]
 pub struct Opened {
     /// The file.
     pub first: Kept<File>,
     /// The same file.
     pub second: Kept<File>,
+    /// The same file, which is read to plan the new one.
+    pub third: Kept<File>,
     /// The length of the file.
     pub length: u64,
     /// Its permissions.
@@ -61,13 +64,11 @@ fn read_error(opened: Opened) -> Option<io::Error> {
     let Opened {
         first,
         second,
+        third,
         length: _,
         mode: _,
     } = opened;
-    match first.error {
-        Some(error) => Some(error),
-        None => second.error,
-    }
+    first.error.or(second.error).or(third.error)
 }
 
 /// Prints to standard error why a file was not written. `opened` and `write_error` have the last errors of both files.
@@ -139,11 +140,17 @@ fn create_beside(rt: &HostRuntime, target: &str) -> io::Result<(File, PathBuf)> 
 fn write_everything<W: Write>(
     rt: &HostRuntime,
     task: Task,
-    first: &mut Kept<File>,
-    second: &mut Kept<File>,
+    opened: &mut Opened,
     output: &mut Output<Steady<Progress<W>>>,
 ) -> Result<Done, Stop> {
-    let run = carry_out(rt.alloc(), task, first, second, output);
+    let run = carry_out(
+        rt.alloc(),
+        task,
+        &mut opened.first,
+        &mut opened.second,
+        &mut opened.third,
+        output,
+    );
     output.inner.inner.clear();
     run
 }
@@ -155,7 +162,7 @@ fn write_file(
     opened: &mut Opened,
     output: &mut Output<Steady<Progress<File>>>,
 ) -> Result<Done, Stop> {
-    let done = write_everything(rt, task, &mut opened.first, &mut opened.second, output)?;
+    let done = write_everything(rt, task, opened, output)?;
     if let Err(error) = output.inner.inner.inner.sync_all() {
         output.inner.error = Some(error);
         return Err(Stop::Failed(Failure::Write));
@@ -251,7 +258,7 @@ fn write_named(
 /// Writes the new file to the standard output.
 fn write_to_pipe(rt: &HostRuntime, task: Task, names: Names<'_>, mut opened: Opened) -> Outcome {
     let mut output = Output::new(Steady::new(Progress::new(rt, rt.stdout(), opened.length)));
-    let run = write_everything(rt, task, &mut opened.first, &mut opened.second, &mut output);
+    let run = write_everything(rt, task, &mut opened, &mut output);
     let outcome = Outcome::of_run(&run);
     if let Err(stop) = run {
         tell_stop(rt, names, &stop, opened, output.inner.error);
@@ -259,19 +266,27 @@ fn write_to_pipe(rt: &HostRuntime, task: Task, names: Names<'_>, mut opened: Ope
     outcome
 }
 
-/// Opens the file with this metadata twice.
-fn open_twice(rt: &HostRuntime, name: &str) -> io::Result<(Opened, Metadata)> {
-    let first = fs::open(rt, name)?;
-    let second = fs::open(rt, name)?;
-    let metadata = first.metadata()?;
-    if Node::new(&second.metadata()?) != Node::new(&metadata) {
-        return Err(io::Error::from(ErrorKind::NotFound));
+/// Opens the file `name`, which should be the node `node`.
+fn open_again(rt: &HostRuntime, name: &str, node: Node) -> io::Result<File> {
+    let file = fs::open(rt, name)?;
+    if Node::new(&file.metadata()?) == node {
+        Ok(file)
+    } else {
+        Err(io::Error::from(ErrorKind::NotFound))
     }
+}
+
+/// Opens the file `name` three times, and returns it with its metadata.
+fn open_file(rt: &HostRuntime, name: &str) -> io::Result<(Opened, Metadata)> {
+    let first = fs::open(rt, name)?;
+    let metadata = first.metadata()?;
+    let node = Node::new(&metadata);
     let opened = Opened {
         length: metadata.len(),
         mode: metadata.mode(),
         first: Kept::new(first),
-        second: Kept::new(second),
+        second: Kept::new(open_again(rt, name, node)?),
+        third: Kept::new(open_again(rt, name, node)?),
     };
     Ok((opened, metadata))
 }
@@ -289,7 +304,7 @@ pub(crate) fn open_source(rt: &HostRuntime, names: Names<'_>) -> Option<(Opened,
                 );
                 return None;
             }
-            open_twice(rt, names.from)
+            open_file(rt, names.from)
         }
         Err(error) => Err(error),
     };

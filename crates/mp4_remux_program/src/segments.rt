@@ -288,7 +288,7 @@ fn write_all_segments(
     options: FragmentOptions,
     mut opened: Opened,
 ) -> Result<Outcome, Failure> {
-    let planned = plan_fragments(rt.alloc(), &mut opened.first, options);
+    let planned = plan_fragments(rt.alloc(), &mut opened.third, options);
     let fragmented = match planned {
         Ok(fragmented) => fragmented,
         Err(stop) => {

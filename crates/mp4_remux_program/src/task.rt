@@ -1,5 +1,10 @@
 //! The tasks of the program, each with a file.
 
+ghost use Rattle.std.specs.Prelude.{◌≡◌, Some, IfSome};
+ghost use Rattle.mp4_remux.specs.declared.forms.form.Form.TheVariants as forms;
+ghost use Rattle.mp4_remux_program.specs.Tasks.{DoesTask, MadeChanges, MovedOrCopied, with_done};
+ghost use Rattle.mp4_remux_program.specs.WrittenForms.{WroteOtherForm};
+
 use crate::movement::Move;
 use crate::refusal::Stop;
 use crate::write::write_fast_start;
@@ -81,73 +86,120 @@ fn fast_start<S: Source, T: Source, W: Write>(
     first: S,
     second: T,
     output: &mut Output<W>,
-) -> Result<Done, Stop> {
-    match write_fast_start(alloc, first, second, output)? {
-        Some(moved) => Ok(Done::Moved(moved)),
-        None => Ok(Done::Copied),
+) -> Result<Done, Stop>
+    ensures { IfSome (S.all first) (λ B. T.all second ≡ Some B
+        → MovedOrCopied B (W.contents output.old.inner) (W.contents output.new.inner) result) }
+{
+    match write_fast_start(alloc, first, second, output) {
+        Ok(Some(moved)) => Ok(Done::Moved(moved)),
+        Ok(None) => Ok(Done::Copied),
+        Err(stop) => Err(stop),
     }
 }
 
-/// Writes the file `first` with `changes`. `second` is the same file.
-fn edit<S: Source, T: Source, W: Write>(
-    alloc: Global,
-    changes: Vec<Shortcut>,
-    first: &mut S,
-    second: T,
-    output: &mut Output<W>,
-) -> Result<Done, Stop> {
-    let count = changes.len();
-    let edits = edits_of(alloc, &mut *first, changes)?;
-    write_edited(alloc, first, second, &edits, output)?;
-    Ok(Done::Edited(count))
+/// Returns `done` after a `run` that has written everything, and else the reason for stopping.
+fn with_done(run: Result<(), Stop>, done: Done) -> Result<Done, Stop>
+    ensures { result ≡ with_done done run }
+{
+    match run {
+        Ok(()) => Ok(done),
+        Err(stop) => Err(stop),
+    }
 }
 
-/// Writes the file `first` with its samples in fragments. `second` is the same file.
-fn fragment<S: Source, T: Source, W: Write>(
+/// Writes the file `first` with `changes`. `second` is the same file, and so is `third`, in which the changes find
+/// their edits.
+fn edit<S: Source, T: Source, P: Source, W: Write>(
+    alloc: Global,
+    changes: Vec<Shortcut>,
+    first: S,
+    second: T,
+    third: P,
+    output: &mut Output<W>,
+) -> Result<Done, Stop>
+    ensures { IfSome (S.all first) (λ B. T.all second ≡ Some B
+        → MadeChanges B changes.items (W.contents output.old.inner) (W.contents output.new.inner) result) }
+{
+    let count = changes.len();
+    let edits = match edits_of(alloc, third, changes) {
+        Ok(edits) => edits,
+        Err(stop) => return Err(Stop::from(stop)),
+    };
+    let run = write_edited(alloc, first, second, &edits, output);
+    with_done(run, Done::Edited(count))
+}
+
+/// Writes the file `first` with its samples in fragments. `second` is the same file, and so is `third`, which is read
+/// to plan the fragments.
+fn fragment<S: Source, T: Source, P: Source, W: Write>(
     alloc: Global,
     options: FragmentOptions,
-    first: &mut S,
+    first: S,
     second: T,
+    third: P,
     output: &mut Output<W>,
-) -> Result<Done, Stop> {
+) -> Result<Done, Stop>
+    ensures { IfSome (S.all first) (λ B. T.all second ≡ Some B
+        → WroteOtherForm forms.Fragments B (W.contents output.old.inner) (W.contents output.new.inner) result) }
+{
+    let fragmented = match plan_fragments(alloc, third, options) {
+        Ok(fragmented) => fragmented,
+        Err(stop) => return Err(Stop::from(stop)),
+    };
     let Fragmented {
         plan,
         init_length: _,
         scale: _,
         parts,
-    } = plan_fragments(alloc, &mut *first, options)?;
-    write_fragments(alloc, first, second, plan, output)?;
-    Ok(Done::Fragmented(parts.len()))
+    } = fragmented;
+    let count = parts.len();
+    let run = write_fragments(alloc, first, second, plan, output);
+    with_done(run, Done::Fragmented(count))
 }
 
-/// Writes the file `first` with its samples in tables. `second` is the same file.
-fn defragment<S: Source, T: Source, W: Write>(
+/// Writes the file `first` with its samples in tables. `second` is the same file, and so is `third`, which is read to
+/// plan the tables.
+fn defragment<S: Source, T: Source, P: Source, W: Write>(
     alloc: Global,
-    first: &mut S,
+    first: S,
     second: T,
+    third: P,
     output: &mut Output<W>,
-) -> Result<Done, Stop> {
+) -> Result<Done, Stop>
+    ensures { IfSome (S.all first) (λ B. T.all second ≡ Some B
+        → WroteOtherForm forms.Tables B (W.contents output.old.inner) (W.contents output.new.inner) result) }
+{
+    let joined = match plan_tables(alloc, third) {
+        Ok(joined) => joined,
+        Err(stop) => return Err(Stop::from(stop)),
+    };
     let Defragmented {
         plan,
         fragments,
         samples,
-    } = plan_tables(alloc, &mut *first)?;
-    write_tables(alloc, first, second, plan, output)?;
-    Ok(Done::Joined { fragments, samples })
+    } = joined;
+    let run = write_tables(alloc, first, second, plan, output);
+    with_done(run, Done::Joined { fragments, samples })
 }
 
 /// Carries out `task` with the file `first`. `second` is the same file, since the old and the new file are compared.
-pub(crate) fn carry_out<S: Source, T: Source, W: Write>(
+/// `third` is the same file, too: it is read to plan the new file. No clause speaks of it, since it does not matter how
+/// a plan was made.
+pub(crate) fn carry_out<S: Source, T: Source, P: Source, W: Write>(
     alloc: Global,
     task: Task,
-    first: &mut S,
+    first: S,
     second: T,
+    third: P,
     output: &mut Output<W>,
-) -> Result<Done, Stop> {
+) -> Result<Done, Stop>
+    ensures { IfSome (S.all first) (λ B. T.all second ≡ Some B
+        → DoesTask task B (W.contents output.old.inner) (W.contents output.new.inner) result) }
+{
     match task {
         Task::FastStart => fast_start(alloc, first, second, output),
-        Task::Edit(changes) => edit(alloc, changes, first, second, output),
-        Task::Fragment(options) => fragment(alloc, options, first, second, output),
-        Task::Defragment => defragment(alloc, first, second, output),
+        Task::Edit(changes) => edit(alloc, changes, first, second, third, output),
+        Task::Fragment(options) => fragment(alloc, options, first, second, third, output),
+        Task::Defragment => defragment(alloc, first, second, third, output),
     }
 }
