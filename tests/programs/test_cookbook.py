@@ -24,6 +24,22 @@ BLOCK = re.compile(r"^```(console|sh)\n(.*?)^```", re.M | re.S)
 LINES = 200
 
 
+def printed(page, run):
+    """Returns `page` with what its commands print now. `run` returns the output of a command, and its status."""
+    def made(block):
+        kind, text = block.groups()
+        if kind == "sh":
+            for command in text.splitlines():
+                said, status = run(command)
+                if status:
+                    raise AssertionError(f"{command}: {said}")
+            return block[0]
+        commands = re.findall(r"^\$ (.*)\n", text, re.M)
+        return "".join(["```console\n", *(f"$ {it}\n{run(it)[0]}" for it in commands), "```"])
+
+    return BLOCK.sub(made, page)
+
+
 class Cookbook(NamesSkipped, unittest.TestCase):
     def setUp(self):
         self.folder = tempfile.mkdtemp(prefix="cookbook-")
@@ -44,21 +60,12 @@ class Cookbook(NamesSkipped, unittest.TestCase):
                               stdout=subprocess.PIPE, stderr=subprocess.STDOUT, timeout=120, check=False)
         return done.stdout.decode(), done.returncode
 
-    def made(self, kind, text):
-        """Returns the text of a block as its commands print it."""
-        if kind == "sh":
-            for command in text.splitlines():
-                self.assertEqual(self.run_command(command)[1], 0, command)
-            return text
-        commands = re.findall(r"^\$ (.*)\n", text, re.M)
-        return "".join(f"$ {command}\n{self.run_command(command)[0]}" for command in commands)
-
     def test_commands(self):
         with open(PAGE, encoding="utf-8") as file:
             page = file.read()
         for tool, package in TOOLS.items():
             self.needs(tool, package)
-        found = BLOCK.sub(lambda it: f"```{it[1]}\n{self.made(it[1], it[2])}```", page)
+        found = printed(page, self.run_command)
         if os.environ.get("TEST_WRITE"):
             with open(PAGE, "w", encoding="utf-8") as file:
                 file.write(found)

@@ -10,7 +10,8 @@ umask, time zone and locale: their bytes have to be the same.
   another version. A run that fails names the reason and leaves nothing.
 
 With TEST_LONG=1 both checkouts also compile what they pack. The Debian package is then installed, used and removed in a
-clean root that debootstrap makes, which needs root and a mirror of Debian (TEST_MIRROR).
+clean root that debootstrap makes, which needs root and a mirror of Debian (TEST_MIRROR). In another one, a user who has
+the packages and no clone runs the commands of the cookbook, and the example programs of each language.
 
 The programs and the library are those of TEST_PROGRAMS and TEST_LIBRARY if they are set."""
 
@@ -33,7 +34,9 @@ import zipfile
 
 from tests.built import TOP, NamesSkipped, built, library, source
 from tests.c.test_bindings import written_examples
+from tests.c.test_examples import NAMES as EXAMPLES
 from tests.files.stored import stored
+from tests.programs import test_cookbook
 from tests.repository.test_install import EXAMPLE, files_below, made_library
 
 sys.path.insert(0, os.path.join(TOP, "tools"))
@@ -51,6 +54,8 @@ PROGRAMS = sorted(f"bin/{name}" for name, _ in building.PROGRAMS.values())
 SHARED = f"libmp4_box_codec.so.{VERSION}"
 CONFIGS = ("pkgconfig/mp4_box_codec.pc", "pkgconfig/mp4_box_codec-static.pc")
 DOCUMENTS = "share/doc/mp4-box-codec"
+# The packages of Debian that the commands of the cookbook need, and programs in each language.
+TOOLS = [*test_cookbook.TOOLS.values(), "gcc", "g++", "libc6-dev", "pkg-config", "cargo", "python3-venv"]
 # The library in a wheel, which is in the folder of the package for Python.
 IN_WHEEL = f"mp4_box_codec/{building.SONAME}"
 # A program instead of `rt`. Its gate prints the file `said` and ends with the status in the file `status`. It proves no
@@ -304,8 +309,19 @@ class Packages(Working):
         self.assertEqual([line for line in ran.stdout.split("\n") if line.startswith(("E:", "W:"))], [])
         self.assertEqual(ran.returncode, 0, ran.stderr)
 
+    @classmethod
+    def made_root(cls):
+        """Makes a clean root of Debian once, and returns its folder."""
+        root = os.path.join(cls.work, "root")
+        if not os.path.isdir(root):
+            succeeds("debootstrap", "--variant=minbase", SUITE, f"{root}-made", MIRROR)
+            os.rename(f"{root}-made", root)
+        return root
+
     def clean_root(self):
-        """Makes a clean root of Debian, and returns its folder."""
+        """Returns the folder of a clean root of Debian, a copy for each test, and a function that runs a command in it
+        as root."""
+        self.takes_long()
         if os.geteuid():
             self.skipTest("debootstrap and chroot need root")
         self.needs("debootstrap")
@@ -314,15 +330,13 @@ class Packages(Working):
                 file.read(1)
         except OSError as why:
             self.skipTest(f"no mirror of Debian is reachable ({MIRROR}: {why}); TEST_MIRROR names another")
-        root = os.path.join(self.work, "root")
-        succeeds("debootstrap", "--variant=minbase", SUITE, root, MIRROR)
-        return root
+        root = os.path.join(self.work, self.id())
+        succeeds("cp", "-a", self.made_root(), root)
+        env = {"PATH": "/usr/sbin:/usr/bin:/sbin:/bin", "LC_ALL": "C", "DEBIAN_FRONTEND": "noninteractive"}
+        return root, lambda *words, **how: succeeds("chroot", root, *words, env=env, **how)
 
     def test_debian_package_in_a_clean_root(self):
-        self.takes_long()
-        root = self.clean_root()
-        env = {"PATH": "/usr/sbin:/usr/bin:/sbin:/bin", "LC_ALL": "C", "DEBIAN_FRONTEND": "noninteractive"}
-        inside = lambda *words, **how: succeeds("chroot", root, *words, env=env, **how)
+        root, inside = self.clean_root()
         own = re.compile(r"(var/(lib/(dpkg|apt)|cache|log)|etc/ld\.so\.cache|tmp|plain\.mp4)\b")
         present = lambda: [it for it in files_below(root) if not own.match(it)]
         before = present()
@@ -335,6 +349,76 @@ class Packages(Working):
         inside("apt-get", "purge", "-y", "mp4-box-codec")
         self.assertEqual(present(), before)
         self.assertNotIn(building.SONAME, inside("ldconfig", "-p"))
+
+    def user(self):
+        """Installs the packages in a clean root. Returns the folder of a user in it, and a function that runs a command
+        as this user and returns its output and status."""
+        root, inside = self.clean_root()
+        shutil.copy(self.debian, os.path.join(root, "tmp"))
+        inside("apt-get", "install", "-y", "--no-install-recommends", f"/tmp/{os.path.basename(self.debian)}", *TOOLS)
+        inside("useradd", "--create-home", "--uid", "1000", "user")
+        home = os.path.join(root, "home", "user")
+        for path in (self.wheel, *(os.path.join(test_cookbook.MOVIES, it) for it in test_cookbook.NAMES)):
+            shutil.copy(path, home)
+        succeeds("chown", "-R", "1000:1000", home)
+        succeeds("mount", "-t", "proc", "proc", os.path.join(root, "proc"))
+        self.addCleanup(succeeds, "umount", os.path.join(root, "proc"))
+        env = {"PATH": "/usr/bin:/bin", "HOME": "/home/user", "LC_ALL": "C.UTF-8"}
+
+        def run(command):
+            words = ["chroot", "--userspec=1000:1000", root, "bash", "-c", f"cd && {command}"]
+            ran = subprocess.run(words, env=env, stdin=subprocess.DEVNULL, stdout=subprocess.PIPE,
+                                 stderr=subprocess.STDOUT, check=False)
+            return ran.stdout.decode(), ran.returncode
+
+        return home, run
+
+    def test_users_without_a_clone(self):
+        home, run = self.user()
+
+        def runs(command):
+            said, status = run(command)
+            self.assertEqual(status, 0, f"{command}: {said}")
+            return said
+
+        page = source("docs", "COOKBOOK.md")
+        os.mkdir(os.path.join(home, "films"))
+        os.chown(os.path.join(home, "films"), 1000, 1000)
+        runs(f"cp {' '.join(test_cookbook.NAMES)} films")
+        found = test_cookbook.printed(page, lambda command: run(f"cd films && {command}"))
+        self.assertEqual(page.split("\n"), found.split("\n"))
+        self.check_programs(home, runs)
+
+    def check_programs(self, home, runs):
+        """Compiles and runs the programs of the package in C, C++, Rust and Python. `runs` runs a command, which has to
+        succeed, and returns its output."""
+        folder = f"/usr/{DOCUMENTS}/examples"
+        flags = "$(pkg-config --cflags --libs mp4_box_codec) -lm"
+        for name in EXAMPLES:
+            runs(f"mkdir -p c && cc {folder}/c/{name}.c {flags} -o c/{name}")
+        runs(f"c++ -std=c++17 {folder}/cpp/boxes.cpp {flags} -o boxes")
+        self.assertIn("moov/trak[0]: 20 samples of 1024\n", runs("./boxes phone.mp4"))
+        runs(f"cargo build --offline --quiet --manifest-path {folder}/rust/Cargo.toml --target-dir rust")
+        runs(f"python3 -m venv python && python/bin/pip install --no-index {os.path.basename(self.wheel)}")
+        for programs in ("c", "rust/debug"):
+            self.assertEqual(runs(f"{programs}/tracks phone.mp4"), (
+                "track 1: video, avc1.64000a, deu, 64 x 48, 2.000 s, 20 samples\n"
+                "track 2: audio, mp4a.40.2, deu, 0 x 0, 2.000 s, 17 samples\n"))
+            runs(f"{programs}/elementary phone.mp4 1 stream && {programs}/mux stream 64 48 10 muxed.mp4")
+            self.assertIn("avc1.64000a  64x48  10 fps  2.000 s", runs("mp4inspect info muxed.mp4"))
+            runs(f"{programs}/edit phone.mp4 1 fra edited.mp4")
+            self.assertEqual(runs("mp4inspect get --field language edited.mp4 moov/trak/mdia/mdhd"), "fra\n")
+            self.assertEqual(runs(f"{programs}/playlist dash.mp4 1").count("#EXTINF:1.0"), 3)
+        python = lambda name, *words: runs(f"python/bin/python {folder}/python/{name}.py {' '.join(words)}")
+        self.assertIn("phone.mp4: track 1: video, avc1.64000a, deu, 2 s, 20 samples", python("tracks", "phone.mp4"))
+        python("stream", "phone.mp4", "units")
+        runs("cmp stream units")
+        python("edit", "phone.mp4", "turned.mp4", "fra", "180")
+        self.assertIn("64x48 rotated 180  10 fps  2.000 s  7 kb/s  fra", runs("mp4inspect info turned.mp4"))
+        python("mux", "both.mp4", "phone.mp4", "song.m4a")
+        self.assertIn("2 audio  mp4a.40.2", runs("mp4inspect info both.mp4"))
+        self.assertEqual(python("playlist", "dash.mp4", "dash.mp4").count("#EXTINF:1.000,"), 3)
+        runs("mp4inspect check phone.mp4 muxed.mp4 edited.mp4 turned.mp4 both.mp4")
 
     def test_wheel(self):
         with zipfile.ZipFile(self.wheel) as archive:
