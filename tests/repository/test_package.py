@@ -345,7 +345,8 @@ class Packages(Working):
         self.assertIn(building.SONAME, inside("ldconfig", "-p"))
         self.use(lambda name: ["chroot", root, name], root)
         checked = subprocess.run(["chroot", root, "mp4inspect", "check", "plain.mp4"], capture_output=True, check=False)
-        self.assertEqual((checked.returncode, checked.stdout.split()[0]), (1, b"728"))
+        found = [line.split()[0] for line in checked.stdout.splitlines()]
+        self.assertEqual((checked.returncode, found), (1, [b"284", b"728"]))
         inside("apt-get", "purge", "-y", "mp4-box-codec")
         self.assertEqual(present(), before)
         self.assertNotIn(building.SONAME, inside("ldconfig", "-p"))
@@ -366,7 +367,7 @@ class Packages(Working):
         env = {"PATH": "/usr/bin:/bin", "HOME": "/home/user", "LC_ALL": "C.UTF-8"}
 
         def run(command):
-            words = ["chroot", "--userspec=1000:1000", root, "bash", "-c", f"cd && {command}"]
+            words = [shutil.which("chroot"), "--userspec=1000:1000", root, "bash", "-c", f"cd && {command}"]
             ran = subprocess.run(words, env=env, stdin=subprocess.DEVNULL, stdout=subprocess.PIPE,
                                  stderr=subprocess.STDOUT, check=False)
             return ran.stdout.decode(), ran.returncode
