@@ -1,0 +1,53 @@
+-- New files that are checked before they are written.
+use Rattle.std.proofs.Common.{◌≡◌, ℕ, List, length, None, Some, refl, sym, ap, subst, ◌∙◌}
+use Rattle.std.specs.Prelude.{IfSome}
+use Rattle.std.specs.declared.option.Option.{Option}
+use Rattle.mp4_remux.specs.NewFiles.{NewFile, bytes_by, spelled_by}
+use Rattle.mp4_remux.specs.Pieces.{AreWithin, spelled}
+use Rattle.mp4_remux.specs.declared.pieces.piece.Piece.{Piece}
+
+-- what holds of two movies holds of the files of their sources
+pub by_sources : (R : List ℕ → List ℕ → Type 0) (r s before after : Option (List ℕ)) (ps : List Piece) → before ≡ r
+    → after ≡ s
+    → IfSome before (λ B. IfSome after (λ C. AreWithin (length B) ps → C ≡ spelled B ps → R B C))
+    → IfSome r (λ B. AreWithin (length B) ps → s ≡ Some (spelled B ps) → R B (spelled B ps))
+by_sources R None s before after ps old new holds = tt
+by_sources R (Some B) s before after ps old new holds = λ within is.
+    let first : IfSome after (λ C. AreWithin (length B) ps → C ≡ spelled B ps → R B C) =
+    subst (λ (o : Option (List ℕ)). IfSome o (λ B. IfSome after (λ C. AreWithin (length B) ps → C ≡ spelled B ps
+    → R B C))) old holds in
+    let second : AreWithin (length B) ps → spelled B ps ≡ spelled B ps → R B (spelled B ps) =
+    subst (λ (o : Option (List ℕ)). IfSome o (λ C. AreWithin (length B) ps → C ≡ spelled B ps → R B C)) (new ∙ is)
+    first in
+    second within refl
+
+-- the new file is read by a second source of the old file
+pub by_again : (R : List ℕ → List ℕ → Type 0) (r s again : Option (List ℕ)) (f : NewFile) (ps : List Piece) → s ≡ r
+    → f.old ≡ again → f.pieces ≡ ps → IfSome r (λ B. AreWithin (length B) ps)
+    → IfSome s (λ B. AreWithin (length B) ps → bytes_by f ≡ Some (spelled B ps) → R B (spelled B ps))
+    → IfSome r (λ B. again ≡ Some B → R B (spelled B ps))
+by_again R None s again f ps sr is_old is_pieces within holds = tt
+by_again R (Some B) s again f ps sr is_old is_pieces within holds = λ same.
+    let holds' : AreWithin (length B) ps → bytes_by f ≡ Some (spelled B ps) → R B (spelled B ps) =
+    subst (λ (o : Option (List ℕ)). IfSome o (λ B. AreWithin (length B) ps → bytes_by f ≡ Some (spelled B ps)
+    → R B (spelled B ps))) sr holds in
+    holds' within (ap (λ (o : Option (List ℕ)). spelled_by o f.pieces) (is_old ∙ same)
+    ∙ ap (λ (us : List Piece). Some (spelled B us)) is_pieces)
+
+-- The pieces gs are the pieces qs over the new file that the pieces us spell out over the file of the bytes o
+pub flat_source : (o : Option (List ℕ)) (us vs qs fs gs : List Piece) → vs ≡ qs → gs ≡ fs
+    → IfSome o (λ B. AreWithin (length B) us)
+    → ((B : List ℕ) → AreWithin (length B) us → spelled B fs ≡ spelled (spelled B us) vs)
+    → spelled_by o gs ≡ spelled_by (spelled_by o us) qs
+flat_source None us vs qs fs gs is_vs is_gs within flat = refl
+flat_source (Some B) us vs qs fs gs is_vs is_gs within flat =
+    ap Some (ap (spelled B) is_gs ∙ flat B within ∙ ap (λ (xs : List Piece). spelled (spelled B us) xs) is_vs)
+
+-- the same over a file of n bytes; the pieces us spell out the same as the pieces ps
+pub flat_bytes : (n : ℕ) (ps us vs qs fs gs : List Piece) → vs ≡ qs → gs ≡ fs
+    → ((B : List ℕ) → spelled B us ≡ spelled B ps) → AreWithin n us
+    → ((B : List ℕ) → AreWithin (length B) us → spelled B fs ≡ spelled (spelled B us) vs)
+    → (B : List ℕ) → n ≡ length B → spelled B gs ≡ spelled (spelled B ps) qs
+flat_bytes n ps us vs qs fs gs is_vs is_gs same within flat B long =
+    ap (spelled B) is_gs ∙ flat B (subst (λ (k : ℕ). AreWithin k us) long within)
+    ∙ ap (λ (xs : List Piece). spelled (spelled B us) xs) is_vs ∙ ap (λ (xs : List ℕ). spelled xs qs) (same B)
