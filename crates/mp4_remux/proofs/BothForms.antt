@@ -46,4 +46,5 @@ pub form_of : (f : Form) (r s before after : Option (List ℕ)) (ps : List Piece
     → IfSome s (HasForm f)
     → IfSome before (λ B. IfSome after (λ C. AreWithin (length B) ps → C ≡ spelled B ps → KeepsMedia B C))
     → IfSome r (λ B. AreWithin (length B) ps → s ≡ Some (spelled B ps) → ChangesForm f B (spelled B ps))
-form_of f r s before after ps old new form keeps = with_form f r s ps form (by_sources KeepsMedia r s before after ps old new keeps)
+form_of f r s before after ps old new form keeps =
+    with_form f r s ps form (by_sources KeepsMedia r s before after ps old new keeps)

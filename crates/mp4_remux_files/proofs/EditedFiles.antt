@@ -46,7 +46,8 @@ pub over_kept : (r again : Option (List ℕ)) (f g : NewFile) (n : ℕ) (hs ps u
 over_kept None again f g n hs ps us ss qs fs is_hs is_us f_old f_pieces g_old g_pieces keeps flat = tt
 over_kept (Some B) again f g n hs ps us ss qs fs is_hs is_us f_old f_pieces g_old g_pieces keeps flat = λ same long.
     let first : bytes_by f ≡ Some (spelled B ps) =
-    ap (λ (o : Option (List ℕ)). spelled_by o f.pieces) f_old ∙ ap (λ (xs : List Piece). Some (spelled B xs)) (f_pieces ∙ is_us) in
+    ap (λ (o : Option (List ℕ)). spelled_by o f.pieces) f_old
+    ∙ ap (λ (xs : List Piece). Some (spelled B xs)) (f_pieces ∙ is_us) in
     let second : bytes_by g ≡ Some (spelled B ps) =
     ap (λ (o : Option (List ℕ)). spelled_by o g.pieces) (g_old ∙ same)
     ∙ ap (λ (xs : List Piece). Some (spelled B xs)) (g_pieces ∙ is_us) in
@@ -65,7 +66,8 @@ pub over_source : (r o s : Option (List ℕ)) (f g : NewFile) (n : ℕ) (hs ps u
 over_source None o s f g n hs ps us qs fs is_hs is_us f_old f_pieces kept is_o is_s flat = tt
 over_source (Some B) o s f g n hs ps us qs fs is_hs is_us f_old f_pieces kept is_o is_s flat = λ long.
     let first : bytes_by f ≡ Some (spelled B ps) =
-    ap (λ (o : Option (List ℕ)). spelled_by o f.pieces) f_old ∙ ap (λ (xs : List Piece). Some (spelled B xs)) (f_pieces ∙ is_us) in
+    ap (λ (o : Option (List ℕ)). spelled_by o f.pieces) f_old
+    ∙ ap (λ (xs : List Piece). Some (spelled B xs)) (f_pieces ∙ is_us) in
     is_s ∙ is_o ∙ ap (λ (x : Option (List ℕ)). spelled_by x qs) (kept ∙ first)
     ∙ ap Some (sym (flat B long ∙ ap (λ (xs : List Piece). spelled (spelled B xs) qs) is_hs))
 

@@ -208,8 +208,8 @@ fn write_playlist(
     fill(&mut file, text.as_str().as_bytes())
 }
 
-/// Writes the new file that `plan` spells out over the file `opened`, if fragments list all its samples, and every track
-/// keeps its samples.
+/// Writes the new file that `plan` spells out over the file `opened`, if fragments list all its samples, and every
+/// track keeps its samples.
 fn write_fragments<W: Write>(
     rt: &HostRuntime,
     plan: Plan,

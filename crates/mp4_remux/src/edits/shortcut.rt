@@ -12,7 +12,7 @@ use crate::edits::refusal::EditRefusal;
 use crate::edits::tags::{Tag, remove_tags, set_tags};
 use crate::edits::tracks::{Patched, add, add_patched, drop_track, enable, rotate, set_language};
 use crate::refusal::{Stop, refused};
-use mp4_frame::{FourCC, codes};
+use mp4_frame::{FourCC, codes, u32_at};
 use mp4_walk::Source;
 use std::alloc::{AllocError, Global};
 
