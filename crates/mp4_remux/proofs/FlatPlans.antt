@@ -1,5 +1,5 @@
 -- A plan over a new file as one over the old file.
-use Rattle.std.proofs.Common.{◌≡◌, ℕ, ◌+◌, ◌-◌, ◌<◌, ◌≤◌, List, ◌++◌, take, drop, length, sym, ap, subst, ◌∙◌}
+use Rattle.std.proofs.Common.{◌≡◌, ℕ, ◌+◌, ◌-◌, ◌<◌, ◌≤◌, List, [], ◌++◌, take, drop, length, sym, ap, ◌∙◌}
 use Rattle.std.proofs.Common.{append_assoc, arith}
 use Rattle.std.specs.Prelude.{slice_index_or}
 use Rattle.std.proofs.Math.Seq.{take-add}
@@ -11,10 +11,12 @@ use Rattle.mp4_remux.specs.Pieces.{AreWithin, bytes_of, lengths, long, spelled}
 use Rattle.mp4_remux.specs.declared.pieces.piece.Piece.{Piece}
 
 -- a part of a range of the old file
-pub part_of_range : (B : List ℕ) (b e skip n : ℕ) → skip + n ≤ e - b
-    → take n (drop (b + skip) B) ≡ take n (drop skip (take (e - b) (drop b B)))
-part_of_range B b e skip n le =
-    sym (window (take (e - b) (drop b B)) (drop b B) skip n (take-take (skip + n) (e - b) (drop b B) le)
+pub range_part : (B : List ℕ) (b e skip n : ℕ) → skip + n ≤ e - b
+    → take (b + skip + n - (b + skip)) (drop (b + skip) B) ≡ take n (drop skip (take (e - b) (drop b B)))
+range_part B b e skip n le =
+    let long : b + skip + n - (b + skip) ≡ n = omega arith in
+    ap (λ (k : ℕ). take k (drop (b + skip) B)) long
+    ∙ sym (window (take (e - b) (drop b B)) (drop b B) skip n (take-take (skip + n) (e - b) (drop b B) le)
     ∙ ap (take n) (drop-drop skip b B))
 
 -- one part more is added
@@ -37,6 +39,10 @@ part_added B ps fs gs hs i p at added skip n within lt is place le so_far more =
 -- nothing is added yet
 pub none_added : (B X : List ℕ) (fs : List Piece) (at : ℕ) → spelled B fs ≡ spelled B fs ++ take 0 (drop at X)
 none_added B X fs at = sym (append-nil (spelled B fs))
+
+pub flat_none : (B X : List ℕ) (fs : List Piece) → fs ≡ [] → spelled B fs ≡ spelled X []
+unfolding spelled
+flat_none B X fs is = ap (λ (qs : List Piece). spelled B qs) is
 
 -- one piece more is added
 pub flat_more : (B X : List ℕ) (qs fs gs : List Piece) (i : ℕ) (p : Piece) → i < length qs

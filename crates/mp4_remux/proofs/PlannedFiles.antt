@@ -2,8 +2,14 @@
 use Rattle.std.proofs.Common.{◌≡◌, ℕ, List, length, None, Some, refl, sym, ap, subst, ◌∙◌}
 use Rattle.std.specs.Prelude.{IfSome}
 use Rattle.std.specs.declared.option.Option.{Option}
+use Rattle.mp4_remux.specs.Forms.{ChangesForm}
 use Rattle.mp4_remux.specs.NewFiles.{NewFile, bytes_by, spelled_by}
+use Rattle.mp4_remux.specs.Origins.{HasOrigins}
+use Rattle.mp4_remux.specs.Parts.{IsPart, KeepsPart}
 use Rattle.mp4_remux.specs.Pieces.{AreWithin, spelled}
+use Rattle.mp4_remux.specs.Whole.{KeepsMedia}
+use Rattle.mp4_remux.specs.declared.forms.form.Form.{Form}
+use Rattle.mp4_remux.specs.declared.parts.part.Part.{Part}
 use Rattle.mp4_remux.specs.declared.pieces.piece.Piece.{Piece}
 
 -- what holds of two movies holds of the files of their sources
@@ -33,6 +39,48 @@ by_again R (Some B) s again f ps sr is_old is_pieces within holds = λ same.
     → R B (spelled B ps))) sr holds in
     holds' within (ap (λ (o : Option (List ℕ)). spelled_by o f.pieces) (is_old ∙ same)
     ∙ ap (λ (us : List Piece). Some (spelled B us)) is_pieces)
+
+-- the media are kept
+pub media_of : (r s before after : Option (List ℕ)) (ps : List Piece) → before ≡ r → after ≡ s
+    → IfSome before (λ B. IfSome after (λ C. AreWithin (length B) ps → C ≡ spelled B ps → KeepsMedia B C))
+    → IfSome r (λ B. AreWithin (length B) ps → s ≡ Some (spelled B ps) → KeepsMedia B (spelled B ps))
+media_of r s before after ps old new keeps = by_sources KeepsMedia r s before after ps old new keeps
+
+pub media_again : (r s again : Option (List ℕ)) (f : NewFile) (ps : List Piece) → s ≡ r → f.old ≡ again
+    → f.pieces ≡ ps → IfSome r (λ B. AreWithin (length B) ps)
+    → IfSome s (λ B. AreWithin (length B) ps → bytes_by f ≡ Some (spelled B ps) → KeepsMedia B (spelled B ps))
+    → IfSome r (λ B. again ≡ Some B → KeepsMedia B (spelled B ps))
+media_again r s again f ps sr is_old is_pieces within keeps =
+    by_again KeepsMedia r s again f ps sr is_old is_pieces within keeps
+
+-- all samples are in the other form
+pub form_again : (m : Form) (r s again : Option (List ℕ)) (f : NewFile) (ps : List Piece) → s ≡ r → f.old ≡ again
+    → f.pieces ≡ ps → IfSome r (λ B. AreWithin (length B) ps)
+    → IfSome s (λ B. AreWithin (length B) ps → bytes_by f ≡ Some (spelled B ps) → ChangesForm m B (spelled B ps))
+    → IfSome r (λ B. again ≡ Some B → ChangesForm m B (spelled B ps))
+form_again m r s again f ps sr is_old is_pieces within changes =
+    by_again (ChangesForm m) r s again f ps sr is_old is_pieces within changes
+
+both_known : (p : Part) (r s : Option (List ℕ)) (ps : List Piece) → IfSome r (HasOrigins p)
+    → IfSome r (λ B. AreWithin (length B) ps → s ≡ Some (spelled B ps) → KeepsPart p B (spelled B ps))
+    → IfSome r (λ B. AreWithin (length B) ps → s ≡ Some (spelled B ps) → IsPart p B (spelled B ps))
+both_known p None s ps origins keeps = tt
+both_known p (Some B) s ps origins keeps = λ within is. (origins, keeps within is)
+
+-- the new file is the part
+pub part_of : (p : Part) (r s before after : Option (List ℕ)) (ps : List Piece) → before ≡ r → after ≡ s
+    → IfSome r (HasOrigins p)
+    → IfSome before (λ B. IfSome after (λ C. AreWithin (length B) ps → C ≡ spelled B ps → KeepsPart p B C))
+    → IfSome r (λ B. AreWithin (length B) ps → s ≡ Some (spelled B ps) → IsPart p B (spelled B ps))
+part_of p r s before after ps old new origins keeps =
+    both_known p r s ps origins (by_sources (KeepsPart p) r s before after ps old new keeps)
+
+pub part_again : (p : Part) (r s again : Option (List ℕ)) (f : NewFile) (ps : List Piece) → s ≡ r → f.old ≡ again
+    → f.pieces ≡ ps → IfSome r (λ B. AreWithin (length B) ps)
+    → IfSome s (λ B. AreWithin (length B) ps → bytes_by f ≡ Some (spelled B ps) → IsPart p B (spelled B ps))
+    → IfSome r (λ B. again ≡ Some B → IsPart p B (spelled B ps))
+part_again p r s again f ps sr is_old is_pieces within is =
+    by_again (IsPart p) r s again f ps sr is_old is_pieces within is
 
 -- The pieces gs are the pieces qs over the new file that the pieces us spell out over the file of the bytes o
 pub flat_source : (o : Option (List ℕ)) (us vs qs fs gs : List Piece) → vs ≡ qs → gs ≡ fs

@@ -20,6 +20,19 @@ fn add(flat: &mut Plan, piece: Piece) -> Result<(), Stop>
     }
 }
 
+/// Returns the `size` bytes after the first `skip` of the range of the old file from `begin` to `end`.
+fn range_of(begin: u64, end: u64, skip: u64, size: u64) -> Piece
+    requires { skip + size ≤ end - begin }
+    ensures { (B : List ℕ) → bytes_of B result ≡ take size (drop skip (take (end - begin) (drop begin B))) }
+{
+    // For the prover: a number that is passed by value has the range of its type.
+    let _end = end;
+    Piece::Old {
+        begin: begin + skip,
+        end: begin + skip + size,
+    }
+}
+
 /// Returns the `size` bytes of `piece` after the first `skip`.
 fn part_of(alloc: Global, piece: &Piece, skip: u64, size: u64) -> Result<Piece, AllocError>
     requires { skip + size ≤ long piece.now }
@@ -31,10 +44,7 @@ fn part_of(alloc: Global, piece: &Piece, skip: u64, size: u64) -> Result<Piece, 
             let part = Vec::from_slice(alloc, &bytes[from..from + size as usize])?;
             Ok(Piece::New(part))
         }
-        Piece::Old { begin, end: _ } => Ok(Piece::Old {
-            begin: begin + skip,
-            end: begin + skip + size,
-        }),
+        Piece::Old { begin, end } => Ok(range_of(*begin, *end, skip, size)),
     }
 }
 
@@ -107,7 +117,8 @@ pub fn flat_plan(alloc: Global, first: &Plan, second: &Plan) -> Result<Plan, Sto
         → spelled B flat ≡ spelled (spelled B first.now) second.now) }
 {
     let mut flat = Plan::new(alloc);
-    for piece in second.pieces() {
+    let pieces = second.pieces();
+    for piece in pieces {
         match add_flat(alloc, &mut flat, first, piece) {
             Ok(()) => {}
             Err(stop) => return Err(stop),
