@@ -58,17 +58,17 @@ over_kept (Some B) again f g n hs ps us ss qs fs is_hs is_us f_old f_pieces g_ol
     (sym (flat B long ∙ ap (λ (xs : List Piece). spelled (spelled B xs) qs) is_hs)) (keeps' second)
 
 -- over the source that is handed on, the flat plan is the same file
-pub over_source : (r o s : Option (List ℕ)) (f g : NewFile) (n : ℕ) (hs ps us : List Piece) (qs fs : List Piece)
+pub over_source : (r s : Option (List ℕ)) (f g : NewFile) (n : ℕ) (hs ps us : List Piece) (qs fs : List Piece)
     → hs ≡ ps → us ≡ ps → f.old ≡ r → f.pieces ≡ us → bytes_by g ≡ bytes_by f
-    → o ≡ spelled_by (bytes_by g) qs → s ≡ o
+    → s ≡ spelled_by (bytes_by g) qs
     → ((B : List ℕ) → n ≡ length B → spelled B fs ≡ spelled (spelled B hs) qs)
     → IfSome r (λ B. n ≡ length B → s ≡ Some (spelled B fs))
-over_source None o s f g n hs ps us qs fs is_hs is_us f_old f_pieces kept is_o is_s flat = tt
-over_source (Some B) o s f g n hs ps us qs fs is_hs is_us f_old f_pieces kept is_o is_s flat = λ long.
+over_source None s f g n hs ps us qs fs is_hs is_us f_old f_pieces kept is_s flat = tt
+over_source (Some B) s f g n hs ps us qs fs is_hs is_us f_old f_pieces kept is_s flat = λ long.
     let first : bytes_by f ≡ Some (spelled B ps) =
     ap (λ (o : Option (List ℕ)). spelled_by o f.pieces) f_old
     ∙ ap (λ (xs : List Piece). Some (spelled B xs)) (f_pieces ∙ is_us) in
-    is_s ∙ is_o ∙ ap (λ (x : Option (List ℕ)). spelled_by x qs) (kept ∙ first)
+    is_s ∙ ap (λ (x : Option (List ℕ)). spelled_by x qs) (kept ∙ first)
     ∙ ap Some (sym (flat B long ∙ ap (λ (xs : List Piece). spelled (spelled B xs) qs) is_hs))
 
 -- the other plan is the file after the hidden splices

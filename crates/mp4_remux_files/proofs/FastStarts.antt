@@ -7,7 +7,7 @@ use Rattle.mp4_remux.specs.Whole.{KeepsMedia}
 use Rattle.mp4_remux.specs.declared.pieces.piece.Piece.{Piece}
 use Rattle.mp4_walk.specs.FileBoxes.{boxes_of}
 use Rattle.mp4_walk.specs.declared.tree_box.TreeBox.{TreeBox}
-use Rattle.mp4_remux_files.specs.FastStarts.{PlansMove, StartsFile}
+use Rattle.mp4_remux_files.specs.FastStarts.{MovesMovie, PlansMove, StartsFile}
 use Rattle.mp4_remux_files.specs.Places.{IsMove, IsPlaced}
 use Rattle.mp4_remux_files.specs.declared.movement.Move.{Move}
 
@@ -28,7 +28,9 @@ moved_kept (Some B) s again n c ps qs sr is plans keeps = λ same long move.
     let plan = plans long in
     let keeps' : again ≡ Some B → KeepsMedia B (spelled B qs) =
     subst (λ (o : Option (List ℕ)). IfSome o (λ B. again ≡ Some B → KeepsMedia B (spelled B qs))) sr keeps in
-    (record { move = move; movie = plan.0; is_movie = plan.1; file = ap (spelled B) is ∙ plan.2 }, keeps' same)
+    let moves : MovesMovie B c (spelled B qs) =
+    record { move = move; movie = plan.0; is_movie = plan.1; file = ap (spelled B) is ∙ plan.2 } in
+    (moves, keeps' same)
 
 start_same : (r again : Option (List ℕ)) (n : ℕ) (qs : List Piece)
     → IfSome r (λ B. n ≡ length B → spelled B qs ≡ B)

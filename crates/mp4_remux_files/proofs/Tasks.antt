@@ -4,6 +4,7 @@ use Rattle.std.proofs.Common.{◌∙◌}
 use Rattle.std.specs.Prelude.{◌⊎◌, IfSome}
 use Rattle.std.specs.declared.option.Option.{Option}
 use Rattle.std.proofs.KnownBytes.{Appends-nil}
+use Rattle.std.proofs.lemmas.Option.{none-some, same_Some}
 use Rattle.std.specs.Io.KnownBytes.{Appends}
 use Rattle.mp4_remux.proofs.Beginnings.{nothing}
 use Rattle.mp4_remux.specs.NewFiles.{spelled_by}
@@ -78,9 +79,9 @@ wrote_task task B C done old new (Err (Failed f)) makes wrote = (C, inr (done, m
 wrote_by : (task : Task) (B C : List ℕ) (done : Done) (o : Option (List ℕ)) (qs : List Piece)
     (old new : Option (List ℕ)) (res : Result Done Stop) → MakesFile task B done C → spelled_by o qs ≡ Some C
     → IfSome o (λ D. WroteDone (spelled D qs) done old new res) → DoesTask task B old new res
-wrote_by task B C done None qs old new res makes spells wrote = absurd cc
+wrote_by task B C done None qs old new res makes spells wrote = absurd (none-some C spells)
 wrote_by task B C done (Some D) qs old new res makes spells wrote =
-    let is : spelled D qs ≡ C = cc in
+    let is : spelled D qs ≡ C = same_Some (spelled D qs) C spells in
     wrote_task task B C done old new res makes (subst (λ (X : List ℕ). WroteDone X done old new res) is wrote)
 
 -- the new file is planned and written
