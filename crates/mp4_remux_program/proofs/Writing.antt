@@ -79,8 +79,8 @@ moved_written (Some B) s again n c ps old new res sr plans wrote = λ long move 
     subst (λ (o : Option (List ℕ)). IfSome o (λ B. again ≡ Some B → WrotePlan B ps old new res)) sr wrote in
     let moves : MovesMovie B c (spelled B ps) = record {
       move = move;
-      movie = plan.0;
-      is_movie = plan.1;
+      all = plan.0;
+      are_move = plan.1;
       file = plan.2;
     } in
     kept B c ps old new res moves (wrote' same)

@@ -12,7 +12,7 @@ use Rattle.mp4_remux.specs.Splices.{AreInOrder, spliced}
 use Rattle.mp4_remux.specs.declared.edits.edit.Edit.{Edit}
 use Rattle.mp4_remux.specs.declared.edits.splice.Splice.{Splice}
 use Rattle.mp4_remux.specs.declared.pieces.piece.Piece.{Piece}
-use Rattle.mp4_remux_program.specs.EditedFile.{AreTopsOf}
+use Rattle.mp4_remux_program.specs.EditedFile.{AreAllOf}
 use Rattle.mp4_remux_program.specs.Written.{WrotePlan}
 use Rattle.mp4_remux_program.specs.WrittenEdits.{WroteEdited, WroteNew, WroteSpliced, WroteTops}
 use Rattle.mp4_remux_program.specs.declared.refusal.Stop.{Stop}
@@ -79,7 +79,7 @@ tops_written (Some B) again n all ps old new res by wrote = λ same long.
     new_written B (spliced B all) ps old new res (by B long) (wrote same)
 
 edited_by : {A : Type 0} (B : List ℕ) (ss all : List Splice) (old new : Option (List ℕ)) (res : Result A Stop)
-    → AreTopsOf B ss all → WroteTops B all old new res → WroteSpliced B ss old new res
+    → AreAllOf B ss all → WroteTops B all old new res → WroteSpliced B ss old new res
 edited_by B ss all old new (Ok x) tops wrote = (spliced B all, (all, tops, refl), wrote.0, wrote.1)
 edited_by B ss all old new (Err (Refused r)) tops wrote = wrote
 edited_by B ss all old new (Err (Failed f)) tops wrote = (spliced B all, inr (all, tops, refl), wrote)
@@ -87,7 +87,7 @@ edited_by B ss all old new (Err (Failed f)) tops wrote = (spliced B all, inr (al
 -- the splices stand for those of the top level
 pub spliced_written : {A : Type 0} (r s again : Option (List ℕ)) (n : ℕ) (ss all : List Splice)
     (old new : Option (List ℕ)) (res : Result A Stop) → s ≡ r → IfSome r (λ B. n ≡ length B)
-    → IfSome r (λ B. AreTopsOf B ss all)
+    → IfSome r (λ B. AreAllOf B ss all)
     → IfSome s (λ B. again ≡ Some B → n ≡ length B → WroteTops B all old new res)
     → IfSome r (λ B. again ≡ Some B → WroteSpliced B ss old new res)
 spliced_written None s again n ss all old new res is long tops wrote = tt

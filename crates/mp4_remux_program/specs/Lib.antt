@@ -2,7 +2,9 @@ pub mod Destination
 pub mod Outcome
 pub mod Moved
 pub mod Places
+pub mod Fields
 pub mod Offsets
+pub mod Shifted
 pub mod Movie
 pub mod Written
 pub mod Laws

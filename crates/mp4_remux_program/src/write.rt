@@ -117,9 +117,8 @@ fn write_moved<S: Source, T: Source, W: Write>(
         → T.all again ≡ Some B
         → WroteMoved B shift (W.contents output.old.inner) (W.contents output.new.inner) result) }
 {
-    let mut source = source;
-    match plan_move(alloc, &mut source, size, shift) {
-        Ok(plan) => write_by(alloc, source, again, plan, output),
+    match plan_move(alloc, source, size, shift) {
+        Ok((source, plan)) => write_by(alloc, source, again, plan, output),
         Err(stop) => Err(stop),
     }
 }
@@ -152,8 +151,8 @@ fn write_as<S: Source, T: Source, W: Write>(
 
 /// Writes a file with its `moov` before its media data, and returns the move. If the `moov` is there already, or the
 /// file has no `mdat`, writes the file as it is and returns `None`. `again` is a second source of the same file, since
-/// the old and the new file are compared. Every track keeps its samples, all bytes outside the `moov` are the same, and
-/// so are those of the `moov` except for its offsets. After a refusal nothing is written, and after a failure a
+/// the old and the new file are compared. Every track keeps its samples. All other bytes are the same, except for
+/// offsets and other fields that lead to bytes of the file. After a refusal nothing is written, and after a failure a
 /// beginning of the file. Needs the memory of two `moov`s, or of the offsets of one, of the sample tables of one track
 /// in both files, and of its largest table. In both cases it also needs the memory of the boxes of both files, and a
 /// block of 1 MiB.

@@ -3,10 +3,10 @@ use Rattle.mp4_remux_program.proofs.write.write_moved.Goals as goal
 
 pub returns-in-Ok : goal.returns-in-Ok
 returns-in-Ok g c =
-    moved_written (g.S.Source.all c.args.source) (g.S.Source.all c.plan_move.new.source)
+    moved_written (g.S.Source.all c.args.source) (g.S.Source.all c.in-Ok.source)
     (g.T.Source.all c.args.again) c.args.size c.args.shift c.in-Ok.plan
     (g.W.Write.contents c.args.output.now.inner) (g.W.Write.contents c.write_by.new.output.inner) c.write_by.result
-    c.plan_move.ensures.keeps c.in-Ok.ensures.plan c.write_by.ensures
+    c.in-Ok.ensures.source c.in-Ok.ensures.plan c.write_by.ensures
 
 pub returns-in-Err : goal.returns-in-Err
 returns-in-Err g c =
