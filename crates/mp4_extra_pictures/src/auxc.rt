@@ -51,7 +51,7 @@ impl DeclaredBox for Auxc {
 }
 
 /// The names of the fields.
-const NAMES: &<AuxcShape as NamedShape>::Names = &names_of!(
+pub const NAMES: &<AuxcShape as NamedShape>::Names = &names_of!(
     VERSION,
     FLAGS,
     run!("aux_type", Text),

@@ -112,7 +112,7 @@ impl DeclaredBox for Av1c {
 }
 
 /// The names of the first four bytes. A delay is present.
-const CONFIG: &[NumberName] = &[
+pub const CONFIG: &[NumberName] = &[
     number!("marker"),
     number!("version"),
     number!("seq_profile"),
@@ -130,7 +130,7 @@ const CONFIG: &[NumberName] = &[
 ];
 
 /// The names of the first four bytes if no delay is present. Its bits are reserved then.
-const CONFIG_WITHOUT_DELAY: &[NumberName] = &[
+pub const CONFIG_WITHOUT_DELAY: &[NumberName] = &[
     number!("marker"),
     number!("version"),
     number!("seq_profile"),
@@ -148,10 +148,10 @@ const CONFIG_WITHOUT_DELAY: &[NumberName] = &[
 ];
 
 /// The content of the box, for showing only.
-type Av1cShown = (NamedBy<Bits<Av1Config, 14, 4>>, Last<Rest>);
+pub type Av1cShown = (NamedBy<Bits<Av1Config, 14, 4>>, Last<Rest>);
 
 /// The names of the fields.
-const NAMES: &<Av1cShown as NamedShape>::Names = &names_of!(
+pub const NAMES: &<Av1cShown as NamedShape>::Names = &names_of!(
     (CONFIG, CONFIG_WITHOUT_DELAY),
     run!("configOBUs", Bytes)
 );

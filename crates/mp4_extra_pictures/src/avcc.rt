@@ -245,7 +245,7 @@ const FORMAT: &[NumberName] = &[
 ];
 
 /// The names of the fields of the part with the format of samples.
-const EXTENSION: &<AvcExtensionShape as NamedShape>::Names = &names_of!(
+pub const EXTENSION: &<AvcExtensionShape as NamedShape>::Names = &names_of!(
     FORMAT,
     list!(
         "sequenceParameterSetExtNALUnit",
@@ -270,7 +270,7 @@ impl HasFields for AvcExtension {
 }
 
 /// Returns whether a configuration of this `profile` has the format of samples.
-fn has_format(profile: u8) -> bool
+pub fn has_format(profile: u8) -> bool
     ensures { result ≡ has_format profile }
 {
     !(profile == 66 || (profile == 77 || profile == 88))
@@ -457,7 +457,7 @@ const SETS: &[NumberName] = &[
 ];
 
 /// The content of the box, for showing only.
-type AvccShown = (
+pub type AvccShown = (
     Bits<AvcConfig, 8, 6>,
     Each<U8, AvcNalUnit>,
     Each<U8, AvcNalUnit>,
@@ -465,7 +465,7 @@ type AvccShown = (
 );
 
 /// The names of the fields.
-const NAMES: &<AvccShown as NamedShape>::Names = &names_of!(
+pub const NAMES: &<AvccShown as NamedShape>::Names = &names_of!(
     SETS,
     list!("sequenceParameterSetNALUnit"),
     list!(

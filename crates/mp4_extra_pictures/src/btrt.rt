@@ -49,7 +49,7 @@ impl DeclaredBox for Btrt {
 }
 
 /// The names of the fields.
-const NAMES: &<BtrtShape as NamedShape>::Names = &names_of!(
+pub const NAMES: &<BtrtShape as NamedShape>::Names = &names_of!(
     number!("bufferSizeDB"),
     number!("maxBitrate"),
     number!("avgBitrate")

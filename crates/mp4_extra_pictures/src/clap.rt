@@ -64,7 +64,7 @@ impl DeclaredBox for Clap {
 }
 
 /// The names of the fields.
-const NAMES: &<ClapShape as NamedShape>::Names = &names_of!(
+pub const NAMES: &<ClapShape as NamedShape>::Names = &names_of!(
     number!("cleanApertureWidthN"),
     number!("cleanApertureWidthD"),
     number!("cleanApertureHeightN"),

@@ -45,7 +45,7 @@ impl DeclaredBox for Clli {
 }
 
 /// The names of the fields.
-const NAMES: &<ClliShape as NamedShape>::Names = &names_of!(
+pub const NAMES: &<ClliShape as NamedShape>::Names = &names_of!(
     number!("max_content_light_level"),
     number!("max_pic_average_light_level")
 );

@@ -174,7 +174,7 @@ pub const MATRIX_COEFFICIENTS: &[Meaning] = &[
 ];
 
 /// The names of the numbers of `Nclx`. Those of `nclc` are the first three.
-const COLOURS: &[NumberName] = &[
+pub const COLOURS: &[NumberName] = &[
     number!("colour_primaries", Named, COLOUR_PRIMARIES),
     number!("transfer_characteristics", Named, TRANSFER_CHARACTERISTICS),
     number!("matrix_coefficients", Named, MATRIX_COEFFICIENTS),
@@ -183,10 +183,10 @@ const COLOURS: &[NumberName] = &[
 ];
 
 /// The names of the fields: of the type, of numbers, of a profile, and of bytes of an unknown type.
-const NAMES: ColourNames = ("colour_type", (COLOURS, ("ICC_profile", "data_bytes")));
+pub const NAMES: ColourNames = ("colour_type", (COLOURS, ("ICC_profile", "data_bytes")));
 
 /// The type of `NAMES`.
-type ColourNames = (
+pub type ColourNames = (
     &'static str,
     (&'static [NumberName], (&'static str, &'static str)),
 );

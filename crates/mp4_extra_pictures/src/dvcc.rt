@@ -120,7 +120,7 @@ pub const CONFIG: &[NumberName] = &[
 ];
 
 /// The names of the fields.
-const NAMES: &<DvccShape as NamedShape>::Names = &names_of!(CONFIG);
+pub const NAMES: &<DvccShape as NamedShape>::Names = &names_of!(CONFIG);
 
 impl HasFields for Dvcc {
     ghost shown = { λ view b. ⟦<DvccShape as NamedShape>⟧.shown NAMES.now view

@@ -46,7 +46,7 @@ impl DeclaredBox for Dvvc {
 }
 
 /// The names of the fields.
-const NAMES: &<DvvcShape as NamedShape>::Names = &names_of!(CONFIG);
+pub const NAMES: &<DvvcShape as NamedShape>::Names = &names_of!(CONFIG);
 
 impl HasFields for Dvvc {
     ghost shown = { λ view b. ⟦<DvvcShape as NamedShape>⟧.shown NAMES.now view

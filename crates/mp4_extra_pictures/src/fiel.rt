@@ -58,7 +58,7 @@ const ORDERS: &[Meaning] = &[
 ];
 
 /// The names of the fields.
-const NAMES: &<FielShape as NamedShape>::Names = &names_of!(
+pub const NAMES: &<FielShape as NamedShape>::Names = &names_of!(
     number!("fields", Named, FIELDS),
     number!("detail", Named, ORDERS)
 );

@@ -299,7 +299,7 @@ const KIND: &[NumberName] = &[
 ];
 
 /// The names of the fields of an array.
-const ARRAY: &<HevcArrayShape as NamedShape>::Names = &names_of!(KIND, list!("nalUnit"));
+pub const ARRAY: &<HevcArrayShape as NamedShape>::Names = &names_of!(KIND, list!("nalUnit"));
 
 impl ShownEntry for HevcArray {
     ghost shown = { λ view a. entry_of (⟦<HevcArrayShape as NamedShape>⟧.shown ARRAY.now view
@@ -405,7 +405,7 @@ const RATE: &[NumberName] = &[
 ];
 
 /// The names of the fields.
-const NAMES: &<HvccShape as NamedShape>::Names = &names_of!(
+pub const NAMES: &<HvccShape as NamedShape>::Names = &names_of!(
     number!("configurationVersion"),
     PROFILE,
     FORMAT,

@@ -79,7 +79,7 @@ impl DeclaredBox for Imir {
 const MIRROR: &[NumberName] = &[number!("reserved", Reserved(0)), number!("axis")];
 
 /// The names of the fields.
-const NAMES: &<ImirShape as NamedShape>::Names = &names_of!(MIRROR);
+pub const NAMES: &<ImirShape as NamedShape>::Names = &names_of!(MIRROR);
 
 impl HasFields for Imir {
     ghost shown = { λ view b. ⟦<ImirShape as NamedShape>⟧.shown NAMES.now view

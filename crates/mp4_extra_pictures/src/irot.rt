@@ -92,7 +92,7 @@ const ROTATION: &[NumberName] = &[
 ];
 
 /// The names of the fields.
-const NAMES: &<IrotShape as NamedShape>::Names = &names_of!(ROTATION);
+pub const NAMES: &<IrotShape as NamedShape>::Names = &names_of!(ROTATION);
 
 impl HasFields for Irot {
     ghost shown = { λ view b. ⟦<IrotShape as NamedShape>⟧.shown NAMES.now view

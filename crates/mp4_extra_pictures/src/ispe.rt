@@ -51,7 +51,7 @@ impl DeclaredBox for Ispe {
 }
 
 /// The names of the fields.
-const NAMES: &<IspeShape as NamedShape>::Names = &names_of!(
+pub const NAMES: &<IspeShape as NamedShape>::Names = &names_of!(
     VERSION,
     FLAGS,
     number!("image_width"),

@@ -119,7 +119,7 @@ const RED: &[NumberName] = &[
 const WHITE: &[NumberName] = &[number!("white_point_x"), number!("white_point_y")];
 
 /// The names of the fields.
-const NAMES: &<MdcvShape as NamedShape>::Names = &names_of!(
+pub const NAMES: &<MdcvShape as NamedShape>::Names = &names_of!(
     GREEN,
     BLUE,
     RED,

@@ -45,7 +45,7 @@ impl DeclaredBox for Pasp {
 }
 
 /// The names of the fields.
-const NAMES: &<PaspShape as NamedShape>::Names = &names_of!(
+pub const NAMES: &<PaspShape as NamedShape>::Names = &names_of!(
     number!("hSpacing"),
     number!("vSpacing")
 );

@@ -134,7 +134,7 @@ const TYPES: &[PictureType] = of_boxes!(types_held, PictureType);
 
 /// Returns the type of the boxes with the code `code`, if there is one.
 #[tactic(auto, unfolding(crate::specs::PictureBox::picture_of_code))]
-fn type_of(code: u32) -> Option<PictureType>
+pub fn type_of(code: u32) -> Option<PictureType>
     ensures { result ≡ picture_of_code code }
 {
     of_boxes!(type_by_code, PictureType, code)

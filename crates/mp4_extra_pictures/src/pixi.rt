@@ -47,7 +47,7 @@ impl DeclaredBox for Pixi {
 }
 
 /// The names of the fields.
-const NAMES: &<PixiShape as NamedShape>::Names = &names_of!(
+pub const NAMES: &<PixiShape as NamedShape>::Names = &names_of!(
     VERSION,
     FLAGS,
     run!("bits_per_channel", Numbers)

@@ -184,7 +184,7 @@ const FORMAT: &[NumberName] = &[
 ];
 
 /// The names of the fields.
-const NAMES: &<VpccShape as NamedShape>::Names = &names_of!(
+pub const NAMES: &<VpccShape as NamedShape>::Names = &names_of!(
     VERSION,
     FLAGS,
     number!("profile"),

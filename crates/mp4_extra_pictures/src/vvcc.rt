@@ -104,7 +104,7 @@ const FRONT: &[NumberName] = &[
 ];
 
 /// The names of the fields.
-const NAMES: &<VvccShape as NamedShape>::Names = &names_of!(
+pub const NAMES: &<VvccShape as NamedShape>::Names = &names_of!(
     VERSION,
     FLAGS,
     FRONT,

@@ -72,7 +72,7 @@ impl DeclaredBox for Cslg {
 }
 
 /// The names of the fields.
-const NAMES: &<CslgShape as NamedShape>::Names = &names_of!(
+pub const NAMES: &<CslgShape as NamedShape>::Names = &names_of!(
     VERSION,
     FLAGS,
     number!("compositionToDTSShift"),

@@ -54,7 +54,7 @@ impl DeclaredBox for Leva {
 }
 
 /// The names of the fields.
-const NAMES: &<LevaShape as NamedShape>::Names = &names_of!(
+pub const NAMES: &<LevaShape as NamedShape>::Names = &names_of!(
     VERSION,
     FLAGS,
     number!("level_count"),

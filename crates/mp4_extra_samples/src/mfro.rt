@@ -49,7 +49,11 @@ impl DeclaredBox for Mfro {
 }
 
 /// The names of the fields.
-const NAMES: &<MfroShape as NamedShape>::Names = &names_of!(VERSION, FLAGS, number!("parent_size"));
+pub const NAMES: &<MfroShape as NamedShape>::Names = &names_of!(
+    VERSION,
+    FLAGS,
+    number!("parent_size")
+);
 
 impl HasFields for Mfro {
     ghost shown = { λ view b. ⟦<MfroShape as NamedShape>⟧.shown NAMES.now view

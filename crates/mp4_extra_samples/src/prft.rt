@@ -56,7 +56,7 @@ impl DeclaredBox for Prft {
 }
 
 /// The names of the fields.
-const NAMES: &<PrftShape as NamedShape>::Names = &names_of!(
+pub const NAMES: &<PrftShape as NamedShape>::Names = &names_of!(
     VERSION,
     FLAGS,
     number!("reference_track_ID"),

@@ -122,7 +122,7 @@ const AUXILIARY_FLAGS: &[Meaning] = &[(0x1, "aux_info_type")];
 const OFFSET: &[NumberName] = &[number!("offset")];
 
 /// The names of the fields.
-const NAMES: &<SaioShape as NamedShape>::Names = &names_of!(
+pub const NAMES: &<SaioShape as NamedShape>::Names = &names_of!(
     VERSION,
     number!("flags", Flags(6), AUXILIARY_FLAGS),
     "aux_info_type",

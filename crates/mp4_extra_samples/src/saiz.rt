@@ -76,7 +76,7 @@ impl DeclaredBox for Saiz {
 const AUXILIARY_FLAGS: &[Meaning] = &[(0x1, "aux_info_type")];
 
 /// The names of the fields.
-const NAMES: &<SaizShape as NamedShape>::Names = &names_of!(
+pub const NAMES: &<SaizShape as NamedShape>::Names = &names_of!(
     VERSION,
     number!("flags", Flags(6), AUXILIARY_FLAGS),
     "aux_info_type",

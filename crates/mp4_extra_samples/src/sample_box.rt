@@ -122,7 +122,7 @@ const TYPES: &[SampleType] = of_boxes!(types_held, SampleType);
 
 /// Returns the type of the boxes with the code `code`, if there is one.
 #[tactic(auto, unfolding(crate::specs::SampleBox::sample_of_code))]
-fn type_of(code: u32) -> Option<SampleType>
+pub fn type_of(code: u32) -> Option<SampleType>
     ensures { result ≡ sample_of_code code }
 {
     of_boxes!(type_by_code, SampleType, code)

@@ -102,7 +102,7 @@ impl DeclaredBox for Sbgp {
 const RUN: &[NumberName] = &[number!("sample_count"), number!("group_description_index")];
 
 /// The names of the fields.
-const NAMES: &<SbgpShape as NamedShape>::Names = &names_of!(
+pub const NAMES: &<SbgpShape as NamedShape>::Names = &names_of!(
     VERSION,
     FLAGS,
     "grouping_type",

@@ -99,7 +99,7 @@ const SAMPLE: &[NumberName] = &[
 ];
 
 /// The names of the fields.
-const NAMES: &<SdtpShape as NamedShape>::Names = &names_of!(
+pub const NAMES: &<SdtpShape as NamedShape>::Names = &names_of!(
     VERSION,
     FLAGS,
     (list!("entries"), SAMPLE)

@@ -60,7 +60,7 @@ impl DeclaredBox for Senc {
 const ENCRYPTION_FLAGS: &[Meaning] = &[(0x2, "UseSubSampleEncryption")];
 
 /// The names of the fields.
-const NAMES: &<SencShape as NamedShape>::Names = &names_of!(
+pub const NAMES: &<SencShape as NamedShape>::Names = &names_of!(
     VERSION,
     number!("flags", Flags(6), ENCRYPTION_FLAGS),
     number!("sample_count"),

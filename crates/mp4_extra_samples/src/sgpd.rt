@@ -101,25 +101,25 @@ pub const TELE: u32 = 0x7465_6c65;
 pub const SEIG: u32 = 0x7365_6967;
 
 /// The name of the length of a description.
-const DESCRIPTION_LENGTH: NumberName = number!("description_length");
+pub const DESCRIPTION_LENGTH: NumberName = number!("description_length");
 
 /// The name of the field of `roll` and `prol`.
-const ROLL_DISTANCE: NumberName = number!("roll_distance");
+pub const ROLL_DISTANCE: NumberName = number!("roll_distance");
 
 /// The names of the fields of `rap `.
-const LEADING: &[NumberName] = &[
+pub const LEADING: &[NumberName] = &[
     number!("num_leading_samples_known"),
     number!("num_leading_samples"),
 ];
 
 /// The names of the fields of `tele`.
-const LEVEL: &[NumberName] = &[
+pub const LEVEL: &[NumberName] = &[
     number!("level_independently_decodable"),
     number!("reserved", Reserved(0)),
 ];
 
 /// The names of the numbers of `seig`.
-const ENCRYPTION: &[NumberName] = &[
+pub const ENCRYPTION: &[NumberName] = &[
     number!("reserved", Reserved(0)),
     number!("crypt_byte_block"),
     number!("skip_byte_block"),
@@ -128,13 +128,13 @@ const ENCRYPTION: &[NumberName] = &[
 ];
 
 /// The name of the key of `seig`.
-const KID: BytesName = run!("KID", Bytes);
+pub const KID: BytesName = run!("KID", Bytes);
 
 /// The name of the vector of `seig`, and that of its size.
-const CONSTANT_IV: BytesName = run!("constant_IV", Counted, "constant_IV_size");
+pub const CONSTANT_IV: BytesName = run!("constant_IV", Counted, "constant_IV_size");
 
 /// The name of a description of an unknown kind.
-const UNKNOWN: BytesName = run!("data_bytes", Bytes);
+pub const UNKNOWN: BytesName = run!("data_bytes", Bytes);
 
 /// The kind of a description.
 #[derive(Clone, Copy, Drop)]
@@ -152,7 +152,7 @@ pub enum GroupKind {
 }
 
 /// Returns the kind of the descriptions of a `grouping_type`.
-fn kind_of(grouping_type: u32) -> GroupKind
+pub fn kind_of(grouping_type: u32) -> GroupKind
     ensures { result ≡ kind_of grouping_type }
 {
     if grouping_type == ROLL {
@@ -190,7 +190,7 @@ fn constant_size(bytes: &[u8]) -> usize
 
 /// Returns the number of bytes of a description of this `kind` at the front of `bytes`, or one more than there are if
 /// it isn't known.
-fn usual_size(kind: GroupKind, bytes: &[u8]) -> usize
+pub fn usual_size(kind: GroupKind, bytes: &[u8]) -> usize
     ensures size { result ≡ usual_size kind bytes.now }
     ensures roll { kind ≡ kinds.Roll → 2 ≤ result }
     ensures encryption { kind ≡ kinds.Encryption → 20 ≤ result }
@@ -407,7 +407,7 @@ impl Pieces for Descriptions {
 }
 
 /// The content of the box, for showing only.
-type SgpdShown = Full<
+pub type SgpdShown = Full<
     3,
     (
         Code,
@@ -419,7 +419,7 @@ type SgpdShown = Full<
 >;
 
 /// The names of the fields.
-const NAMES: &<SgpdShown as NamedShape>::Names = &(
+pub const NAMES: &<SgpdShown as NamedShape>::Names = &(
     VERSION,
     (
         FLAGS,

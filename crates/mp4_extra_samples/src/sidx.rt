@@ -117,7 +117,7 @@ const REFERENCE: &[NumberName] = &[
 ];
 
 /// The names of the fields.
-const NAMES: &<SidxShape as NamedShape>::Names = &names_of!(
+pub const NAMES: &<SidxShape as NamedShape>::Names = &names_of!(
     VERSION,
     FLAGS,
     number!("reference_ID"),

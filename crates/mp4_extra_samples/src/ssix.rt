@@ -81,7 +81,7 @@ impl DeclaredEntry for SsixSubsegment {
 const RANGE: &[NumberName] = &[number!("level"), number!("range_size")];
 
 /// The names of the fields of a subsegment.
-const SUBSEGMENT: &<SsixSubsegmentShape as NamedShape>::Names = &names_of!((
+pub const SUBSEGMENT: &<SsixSubsegmentShape as NamedShape>::Names = &names_of!((
     list!("ranges", Counted, "range_count"),
     RANGE
 ));
@@ -153,7 +153,7 @@ impl DeclaredBox for Ssix {
 }
 
 /// The names of the fields.
-const NAMES: &<SsixShape as NamedShape>::Names = &names_of!(
+pub const NAMES: &<SsixShape as NamedShape>::Names = &names_of!(
     VERSION,
     FLAGS,
     list!("subsegments", Counted, "subsegment_count")

@@ -49,7 +49,7 @@ impl DeclaredBox for Styp {
 }
 
 /// The names of the fields.
-const NAMES: &<StypShape as NamedShape>::Names = &names_of!(
+pub const NAMES: &<StypShape as NamedShape>::Names = &names_of!(
     "major_brand",
     number!("minor_version"),
     "compatible_brands"

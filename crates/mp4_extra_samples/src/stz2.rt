@@ -139,7 +139,7 @@ pub struct SampleSizes;
 
 /// The names of the list of sizes, of the bits after an odd number of sizes of 4 bits, of the bytes if they are too
 /// few, and of bytes after the sizes.
-type SizesNames = (&'static str, (NumberName, (BytesName, BytesName)));
+pub type SizesNames = (&'static str, (NumberName, (BytesName, BytesName)));
 
 impl NamedShape for SampleSizes {
     type Value = (u8, (u32, Entries<u8>));
@@ -195,10 +195,10 @@ impl<'a> ShowShape<(u8, (u32, &'a [u8]))> for SampleSizes {
 }
 
 /// The content of the box, for showing only.
-type Stz2Shown = Full<1, (U8, U32, SampleSizes)>;
+pub type Stz2Shown = Full<1, (U8, U32, SampleSizes)>;
 
 /// The names of the fields.
-const NAMES: &<Stz2Shown as NamedShape>::Names = &(
+pub const NAMES: &<Stz2Shown as NamedShape>::Names = &(
     VERSION,
     (
         FLAGS,

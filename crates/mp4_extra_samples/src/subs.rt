@@ -122,7 +122,7 @@ const PART: &[NumberName] = &[
 ];
 
 /// The names of the fields of a sample.
-const SAMPLE: &<SubsEntryShape as NamedShape>::Names = &names_of!(
+pub const SAMPLE: &<SubsEntryShape as NamedShape>::Names = &names_of!(
     number!("sample_delta"),
     (list!("subsamples"), PART)
 );
@@ -194,7 +194,7 @@ impl DeclaredBox for Subs {
 }
 
 /// The names of the fields.
-const NAMES: &<SubsShape as NamedShape>::Names = &names_of!(
+pub const NAMES: &<SubsShape as NamedShape>::Names = &names_of!(
     VERSION,
     FLAGS,
     list!("entries", Counted, "entry_count")

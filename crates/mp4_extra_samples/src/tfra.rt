@@ -107,7 +107,7 @@ impl DeclaredBox for Tfra {
 }
 
 /// The names of the sizes of the numbers in each entry.
-const LENGTHS: &[NumberName] = &[
+pub const LENGTHS: &[NumberName] = &[
     number!("reserved", Reserved(0)),
     number!("length_size_of_traf_num"),
     number!("length_size_of_trun_num"),
@@ -115,7 +115,7 @@ const LENGTHS: &[NumberName] = &[
 ];
 
 /// The names of the fields of an entry.
-const ACCESS: &[NumberName] = &[
+pub const ACCESS: &[NumberName] = &[
     number!("time"),
     number!("moof_offset"),
     number!("traf_number"),
@@ -184,10 +184,10 @@ impl Pieces for Accesses {
 }
 
 /// The content of the box, for showing only.
-type TfraShown = Full<2, (U32, Bits<TfraLengths, 4, 4>, U32, PiecesOf<Accesses>)>;
+pub type TfraShown = Full<2, (U32, Bits<TfraLengths, 4, 4>, U32, PiecesOf<Accesses>)>;
 
 /// The names of the fields.
-const NAMES: &<TfraShown as NamedShape>::Names = &(
+pub const NAMES: &<TfraShown as NamedShape>::Names = &(
     VERSION,
     (
         FLAGS,

@@ -121,7 +121,7 @@ const CONFIG: &[NumberName] = &[
 ];
 
 /// The names of the fields.
-const NAMES: &<AlacShape as NamedShape>::Names = &names_of!(
+pub const NAMES: &<AlacShape as NamedShape>::Names = &names_of!(
     VERSION,
     FLAGS,
     CONFIG,

@@ -195,7 +195,7 @@ const CHANNEL: &[NumberName] = &[
 ];
 
 /// The names of the fields.
-const NAMES: &<ChanShape as NamedShape>::Names = &names_of!(
+pub const NAMES: &<ChanShape as NamedShape>::Names = &names_of!(
     VERSION,
     FLAGS,
     number!("mChannelLayoutTag", Named, LAYOUTS),

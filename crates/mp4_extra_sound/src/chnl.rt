@@ -112,7 +112,7 @@ const STRUCTURE: &[NumberName] = &[
 ];
 
 /// The names of the fields.
-const NAMES: &<ChnlShape as NamedShape>::Names = &names_of!(
+pub const NAMES: &<ChnlShape as NamedShape>::Names = &names_of!(
     VERSION,
     FLAGS,
     number!("stream_structure", Named, STRUCTURES),

@@ -100,7 +100,7 @@ const CONFIG: &[NumberName] = &[
 ];
 
 /// The names of the fields.
-const NAMES: &<Dac3Shape as NamedShape>::Names = &names_of!(CONFIG);
+pub const NAMES: &<Dac3Shape as NamedShape>::Names = &names_of!(CONFIG);
 
 impl HasFields for Dac3 {
     ghost shown = { λ view b. ⟦<Dac3Shape as NamedShape>⟧.shown NAMES.now view

@@ -99,10 +99,10 @@ impl DeclaredBox for Dec3 {
 }
 
 /// The names of the bit rate and the number of streams.
-const CONFIG: &[NumberName] = &[number!("data_rate"), number!("num_ind_sub")];
+pub const CONFIG: &[NumberName] = &[number!("data_rate"), number!("num_ind_sub")];
 
 /// The names of a stream on which none depends.
-const STREAM: &[NumberName] = &[
+pub const STREAM: &[NumberName] = &[
     number!("fscod"),
     number!("bsid"),
     number!("reserved_before_asvc", Reserved(0)),
@@ -116,10 +116,10 @@ const STREAM: &[NumberName] = &[
 ];
 
 /// Their widths, in bits.
-const STREAM_WIDTHS: [u8; 10] = [2, 5, 1, 1, 3, 3, 1, 3, 4, 1];
+pub const STREAM_WIDTHS: [u8; 10] = [2, 5, 1, 1, 3, 3, 1, 3, 4, 1];
 
 /// The names of a stream on which others depend.
-const PARENT: &[NumberName] = &[
+pub const PARENT: &[NumberName] = &[
     number!("fscod"),
     number!("bsid"),
     number!("reserved_before_asvc", Reserved(0)),
@@ -133,7 +133,7 @@ const PARENT: &[NumberName] = &[
 ];
 
 /// Their widths, in bits.
-const PARENT_WIDTHS: [u8; 10] = [2, 5, 1, 1, 3, 3, 1, 3, 4, 9];
+pub const PARENT_WIDTHS: [u8; 10] = [2, 5, 1, 1, 3, 3, 1, 3, 4, 9];
 
 /// Returns the numbers of the stream at the front of `bytes`, on which none depends.
 fn stream_numbers(bytes: &[u8]) -> [u64; 10]
@@ -207,10 +207,10 @@ impl Pieces for Streams {
 }
 
 /// The content of the box, for showing only.
-type Dec3Shown = (Bits<Ec3Config, 2, 2>, PiecesOf<Streams>);
+pub type Dec3Shown = (Bits<Ec3Config, 2, 2>, PiecesOf<Streams>);
 
 /// The names of the fields.
-const NAMES: &<Dec3Shown as NamedShape>::Names = &(
+pub const NAMES: &<Dec3Shown as NamedShape>::Names = &(
     CONFIG,
     (
         list!("substreams"),

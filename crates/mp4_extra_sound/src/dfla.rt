@@ -115,7 +115,7 @@ pub const BLOCK_TYPES: &[Meaning] = &[
 pub struct BlockData;
 
 /// The names of the number of bytes, of the numbers and the checksum of a STREAMINFO, and of other data.
-type BlockDataNames = (NumberName, (&'static [NumberName], (BytesName, BytesName)));
+pub type BlockDataNames = (NumberName, (&'static [NumberName], (BytesName, BytesName)));
 
 impl NamedShape for BlockData {
     type Value = (u8, Entries<u8>);
@@ -211,16 +211,16 @@ impl<'a> ShowShape<(u8, &'a [u8])> for BlockData {
 }
 
 /// A block, for showing only.
-type BlockShown = (Bits<FlacBlockKind, 2, 1>, BlockData);
+pub type BlockShown = (Bits<FlacBlockKind, 2, 1>, BlockData);
 
 /// The names of the kind of a block.
-const KIND: &[NumberName] = &[
+pub const KIND: &[NumberName] = &[
     number!("LastMetadataBlockFlag"),
     number!("BlockType", Named, BLOCK_TYPES),
 ];
 
 /// The names of the numbers of a STREAMINFO.
-const STREAM: &[NumberName] = &[
+pub const STREAM: &[NumberName] = &[
     number!("minimum_block_size"),
     number!("maximum_block_size"),
     number!("minimum_frame_size"),
@@ -232,7 +232,7 @@ const STREAM: &[NumberName] = &[
 ];
 
 /// The names of the fields of a block.
-const BLOCK: &<BlockShown as NamedShape>::Names = &(
+pub const BLOCK: &<BlockShown as NamedShape>::Names = &(
     KIND,
     (
         number!("Length"),
@@ -306,7 +306,7 @@ impl DeclaredBox for Dfla {
 }
 
 /// The names of the fields.
-const NAMES: &<DflaShape as NamedShape>::Names = &names_of!(
+pub const NAMES: &<DflaShape as NamedShape>::Names = &names_of!(
     VERSION,
     FLAGS,
     list!("metadata_blocks")

@@ -110,10 +110,10 @@ impl<'a> ShowShape<&'a [u8]> for ChannelMapping {
 }
 
 /// The content of the box, for showing only.
-type DopsShown = (U8, U8, U16, U32, (I16, U8, Last<ChannelMapping>));
+pub type DopsShown = (U8, U8, U16, U32, (I16, U8, Last<ChannelMapping>));
 
 /// The names of the fields. The gain is in decibels.
-const NAMES: &<DopsShown as NamedShape>::Names = &names_of!(
+pub const NAMES: &<DopsShown as NamedShape>::Names = &names_of!(
     number!("Version"),
     number!("OutputChannelCount"),
     number!("PreSkip"),

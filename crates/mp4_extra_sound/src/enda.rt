@@ -46,7 +46,7 @@ impl DeclaredBox for Enda {
 const ENDIANNESS: &[Meaning] = &[(0, "big-endian"), (1, "little-endian")];
 
 /// The names of the fields.
-const NAMES: &<EndaShape as NamedShape>::Names = &names_of!(number!(
+pub const NAMES: &<EndaShape as NamedShape>::Names = &names_of!(number!(
     "littleEndian",
     Named,
     ENDIANNESS

@@ -51,7 +51,7 @@ impl DeclaredEntry for FontRecord {
 }
 
 /// The names of the fields of a font.
-const FONT: &<FontRecordShape as NamedShape>::Names = &names_of!(
+pub const FONT: &<FontRecordShape as NamedShape>::Names = &names_of!(
     number!("font-ID"),
     run!("font", Text)
 );
@@ -118,7 +118,7 @@ impl DeclaredBox for Ftab {
 }
 
 /// The names of the fields.
-const NAMES: &<FtabShape as NamedShape>::Names = &names_of!(list!(
+pub const NAMES: &<FtabShape as NamedShape>::Names = &names_of!(list!(
     "font-entry",
     Counted,
     "entry-count"

@@ -98,7 +98,7 @@ const GRAPHICS: &[NumberName] = &[
 ];
 
 /// The names of the fields.
-const NAMES: &<GminShape as NamedShape>::Names = &names_of!(
+pub const NAMES: &<GminShape as NamedShape>::Names = &names_of!(
     VERSION,
     FLAGS,
     GRAPHICS,

@@ -58,7 +58,7 @@ impl DeclaredBox for Hmhd {
 }
 
 /// The names of the fields.
-const NAMES: &<HmhdShape as NamedShape>::Names = &names_of!(
+pub const NAMES: &<HmhdShape as NamedShape>::Names = &names_of!(
     VERSION,
     FLAGS,
     number!("maxPDUsize"),

@@ -44,7 +44,7 @@ impl DeclaredBox for Nmhd {
 }
 
 /// The names of the fields.
-const NAMES: &<NmhdShape as NamedShape>::Names = &names_of!(VERSION, FLAGS);
+pub const NAMES: &<NmhdShape as NamedShape>::Names = &names_of!(VERSION, FLAGS);
 
 impl HasFields for Nmhd {
     ghost shown = { λ view b. ⟦<NmhdShape as NamedShape>⟧.shown NAMES.now view

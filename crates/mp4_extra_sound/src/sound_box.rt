@@ -139,7 +139,7 @@ const TYPES: &[SoundType] = of_boxes!(types_held, SoundType);
 
 /// Returns the type of the boxes with the code `code`, if there is one.
 #[tactic(auto, unfolding(crate::specs::SoundBox::sound_of_code))]
-fn type_of(code: u32) -> Option<SoundType>
+pub fn type_of(code: u32) -> Option<SoundType>
     ensures { result ≡ sound_of_code code }
 {
     of_boxes!(type_by_code, SoundType, code)

@@ -49,7 +49,7 @@ impl DeclaredBox for Srat {
 }
 
 /// The names of the fields.
-const NAMES: &<SratShape as NamedShape>::Names = &names_of!(
+pub const NAMES: &<SratShape as NamedShape>::Names = &names_of!(
     VERSION,
     FLAGS,
     number!("sampling_rate")

@@ -44,7 +44,7 @@ impl DeclaredBox for Sthd {
 }
 
 /// The names of the fields.
-const NAMES: &<SthdShape as NamedShape>::Names = &names_of!(VERSION, FLAGS);
+pub const NAMES: &<SthdShape as NamedShape>::Names = &names_of!(VERSION, FLAGS);
 
 impl HasFields for Sthd {
     ghost shown = { λ view b. ⟦<SthdShape as NamedShape>⟧.shown NAMES.now view

@@ -56,7 +56,7 @@ impl DeclaredBox for Stpp {
 }
 
 /// The names of the fields.
-const NAMES: &<StppShape as NamedShape>::Names = &names_of!(
+pub const NAMES: &<StppShape as NamedShape>::Names = &names_of!(
     number!("data_reference_index"),
     run!("namespace", Text),
     run!("schema_location", Text),

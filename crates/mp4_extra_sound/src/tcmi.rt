@@ -57,7 +57,7 @@ impl DeclaredBox for Tcmi {
 }
 
 /// The names of the fields.
-const NAMES: &<TcmiShape as NamedShape>::Names = &names_of!(
+pub const NAMES: &<TcmiShape as NamedShape>::Names = &names_of!(
     VERSION,
     FLAGS,
     number!("text_font"),

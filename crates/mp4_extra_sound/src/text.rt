@@ -95,7 +95,7 @@ impl DeclaredBox for Text {
 }
 
 /// The names of the fields.
-const NAMES: &<TextShape as NamedShape>::Names = &names_of!(
+pub const NAMES: &<TextShape as NamedShape>::Names = &names_of!(
     names_of!(
         number!("a", Fixed(16)),
         number!("b", Fixed(16)),

@@ -97,7 +97,7 @@ impl DeclaredEntry for BoxRecord {
 }
 
 /// The names of the edges.
-const CORNERS: &<BoxRecordShape as NamedShape>::Names = &names_of!(
+pub const CORNERS: &<BoxRecordShape as NamedShape>::Names = &names_of!(
     number!("top"),
     number!("left"),
     number!("bottom"),
@@ -217,10 +217,10 @@ impl EntryLayout<9, 12> for StyleRecord {
 const FACES: &[Meaning] = &[(1, "bold"), (2, "italic"), (4, "underline")];
 
 /// A style, for showing only.
-type StyleShown = (U16, U16, U16, U8, (U8, Last<Group<Bits<TextColor, 4, 4>>>));
+pub type StyleShown = (U16, U16, U16, U8, (U8, Last<Group<Bits<TextColor, 4, 4>>>));
 
 /// The names of the fields of a style.
-const STYLE: <StyleShown as NamedShape>::Names = names_of!(
+pub const STYLE: <StyleShown as NamedShape>::Names = names_of!(
     number!("startChar"),
     number!("endChar"),
     number!("font-ID"),
@@ -305,7 +305,7 @@ const DISPLAY_FLAGS: &[Meaning] = &[
 ];
 
 /// The content of the box without its boxes, for showing only.
-type Tx3gShown = (
+pub type Tx3gShown = (
     U16,
     U32,
     I8,
@@ -318,7 +318,7 @@ type Tx3gShown = (
 );
 
 /// The names of the fields.
-const NAMES: &<Tx3gShown as NamedShape>::Names = &names_of!(
+pub const NAMES: &<Tx3gShown as NamedShape>::Names = &names_of!(
     number!("data_reference_index"),
     number!("displayFlags", Flags(8), DISPLAY_FLAGS),
     number!("horizontal-justification"),

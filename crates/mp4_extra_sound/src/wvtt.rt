@@ -46,7 +46,7 @@ impl DeclaredBox for Wvtt {
 }
 
 /// The names of the fields.
-const NAMES: &<WvttShape as NamedShape>::Names = &names_of!(
+pub const NAMES: &<WvttShape as NamedShape>::Names = &names_of!(
     number!("data_reference_index"),
     run!("data_bytes", SomeBytes)
 );

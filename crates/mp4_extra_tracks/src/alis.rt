@@ -54,7 +54,7 @@ impl DeclaredBox for Alis {
 pub const REFERENCE: &[Meaning] = &[(0x1, "same_file")];
 
 /// The names of the fields.
-const NAMES: &<AlisShape as NamedShape>::Names = &names_of!(
+pub const NAMES: &<AlisShape as NamedShape>::Names = &names_of!(
     VERSION,
     number!("flags", Flags(6), REFERENCE),
     run!("data_bytes", SomeBytes)

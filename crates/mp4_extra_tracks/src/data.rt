@@ -251,7 +251,7 @@ fn kind_of(is_known: bool, data_type: u32, count: usize) -> ValueKind
 }
 
 /// Returns the signed number in 1, 2, 4 or 8 bytes.
-fn signed_in(bytes: &[u8]) -> i64
+pub fn signed_in(bytes: &[u8]) -> i64
     requires { (length bytes.now == 1 || (length bytes.now == 2 || (length bytes.now == 4 || length bytes.now == 8)))
         ≡ true }
     ensures { result ≡ signed_in bytes.now }
@@ -268,7 +268,7 @@ fn signed_in(bytes: &[u8]) -> i64
 }
 
 /// Returns the number of bytes that a signed number has if they aren't shown.
-fn signed_width(number: i64) -> usize
+pub fn signed_width(number: i64) -> usize
     ensures { result ≡ signed_width number }
 {
     if -128 <= number && number <= 127 {
@@ -283,7 +283,7 @@ fn signed_width(number: i64) -> usize
 }
 
 /// Returns the number of bytes that an unsigned number has if they aren't shown.
-fn unsigned_width(number: u64) -> usize
+pub fn unsigned_width(number: u64) -> usize
     ensures { result ≡ unsigned_width number }
 {
     if number <= 255 {
@@ -301,7 +301,7 @@ fn unsigned_width(number: u64) -> usize
 pub struct TypedValue;
 
 /// The names of a text, of a number, of the bytes of a number, and of other bytes.
-type ValueNames = (BytesName, (&'static str, (BytesName, BytesName)));
+pub type ValueNames = (BytesName, (&'static str, (BytesName, BytesName)));
 
 /// Hands a number to a sink, and its bytes unless they are `width`.
 fn put_number_of<K: FieldSink>(
@@ -396,10 +396,10 @@ impl<'a> ShowShape<(bool, (u32, &'a [u8]))> for TypedValue {
 }
 
 /// The content of the box, for showing only. A type of another set than the well-known ones has no meaning.
-type DataShown = (U8, NamedBy<U24>, Country, Language, TypedValue);
+pub type DataShown = (U8, NamedBy<U24>, Country, Language, TypedValue);
 
 /// The names of the fields.
-const NAMES: &<DataShown as NamedShape>::Names = &(
+pub const NAMES: &<DataShown as NamedShape>::Names = &(
     number!("type_set", Reserved(0)),
     (
         (

@@ -51,7 +51,7 @@ impl DeclaredBox for Elng {
 }
 
 /// The names of the fields.
-const NAMES: &<ElngShape as NamedShape>::Names = &names_of!(
+pub const NAMES: &<ElngShape as NamedShape>::Names = &names_of!(
     VERSION,
     FLAGS,
     run!("extended_language", Ended)

@@ -42,7 +42,7 @@ impl DeclaredBox for Frma {
 }
 
 /// The names of the fields.
-const NAMES: &<FrmaShape as NamedShape>::Names = &names_of!("data_format");
+pub const NAMES: &<FrmaShape as NamedShape>::Names = &names_of!("data_format");
 
 impl HasFields for Frma {
     ghost shown = { λ view b. ⟦<FrmaShape as NamedShape>⟧.shown NAMES.now view

@@ -108,7 +108,7 @@ const SIZES: &[NumberName] = &[
 ];
 
 /// The names of the fields.
-const NAMES: &<IlocShape as NamedShape>::Names = &names_of!(
+pub const NAMES: &<IlocShape as NamedShape>::Names = &names_of!(
     VERSION,
     FLAGS,
     SIZES,

@@ -81,7 +81,7 @@ impl DeclaredBox for Infe {
 }
 
 /// Returns whether `item_type` has the code `code`.
-fn is_type(code: u32, item_type: Option<FourCC>) -> bool
+pub fn is_type(code: u32, item_type: Option<FourCC>) -> bool
     ensures { result ≡ is_type code item_type }
 {
     match item_type {
@@ -91,7 +91,7 @@ fn is_type(code: u32, item_type: Option<FourCC>) -> bool
 }
 
 /// The content of the box, for showing only. The name of the last bytes depends on the type of the item.
-type InfeShown = Full<
+pub type InfeShown = Full<
     4,
     (
         ItemId<3>,
@@ -106,7 +106,7 @@ type InfeShown = Full<
 const ITEM_FLAGS: &[Meaning] = &[(0x1, "hidden")];
 
 /// The names of the fields.
-const NAMES: &<InfeShown as NamedShape>::Names = &(
+pub const NAMES: &<InfeShown as NamedShape>::Names = &(
     VERSION,
     (
         number!("flags", Flags(6), ITEM_FLAGS),

@@ -47,7 +47,7 @@ impl DeclaredBox for Iods {
 }
 
 /// The names of the fields.
-const NAMES: &<IodsShape as NamedShape>::Names = &names_of!(VERSION, FLAGS, run!("OD", Bytes));
+pub const NAMES: &<IodsShape as NamedShape>::Names = &names_of!(VERSION, FLAGS, run!("OD", Bytes));
 
 impl HasFields for Iods {
     ghost shown = { λ view b. ⟦<IodsShape as NamedShape>⟧.shown NAMES.now view

@@ -138,7 +138,7 @@ impl DeclaredEntry for ItemProperties {
 const ASSOCIATION: &[NumberName] = &[number!("essential"), number!("property_index")];
 
 /// The names of the fields of an item.
-const ENTRY: &<ItemPropertiesShape as NamedShape>::Names = &names_of!(
+pub const ENTRY: &<ItemPropertiesShape as NamedShape>::Names = &names_of!(
     number!("item_ID"),
     (list!("associations"), ASSOCIATION),
     (list!("associations"), ASSOCIATION)
@@ -228,7 +228,7 @@ impl DeclaredBox for Ipma {
 const PROPERTY_FLAGS: &[Meaning] = &[(0x1, "property_index of 15 bits")];
 
 /// The names of the fields.
-const NAMES: &<IpmaShape as NamedShape>::Names = &names_of!(
+pub const NAMES: &<IpmaShape as NamedShape>::Names = &names_of!(
     VERSION,
     number!("flags", Flags(6), PROPERTY_FLAGS),
     list!("entries", Counted, "entry_count")

@@ -50,7 +50,7 @@ impl DeclaredEntry for MetadataKey {
 }
 
 /// The names of the fields of a key.
-const KEY: &<MetadataKeyShape as NamedShape>::Names = &names_of!(
+pub const KEY: &<MetadataKeyShape as NamedShape>::Names = &names_of!(
     "Key_namespace",
     run!("Key_value", Text)
 );
@@ -121,7 +121,7 @@ impl DeclaredBox for Keys {
 }
 
 /// The names of the fields.
-const NAMES: &<KeysShape as NamedShape>::Names = &names_of!(
+pub const NAMES: &<KeysShape as NamedShape>::Names = &names_of!(
     VERSION,
     FLAGS,
     list!("entries", Counted, "entry_count")

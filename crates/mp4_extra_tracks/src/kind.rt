@@ -52,7 +52,7 @@ impl DeclaredBox for Kind {
 }
 
 /// The names of the fields.
-const NAMES: &<KindShape as NamedShape>::Names = &names_of!(
+pub const NAMES: &<KindShape as NamedShape>::Names = &names_of!(
     VERSION,
     FLAGS,
     run!("schemeURI", Text),

@@ -48,7 +48,11 @@ impl DeclaredBox for Mean {
 }
 
 /// The names of the fields.
-const NAMES: &<MeanShape as NamedShape>::Names = &names_of!(VERSION, FLAGS, run!("value", Text));
+pub const NAMES: &<MeanShape as NamedShape>::Names = &names_of!(
+    VERSION,
+    FLAGS,
+    run!("value", Text)
+);
 
 impl HasFields for Mean {
     ghost shown = { λ view b. ⟦<MeanShape as NamedShape>⟧.shown NAMES.now view

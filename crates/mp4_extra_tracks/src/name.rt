@@ -48,7 +48,11 @@ impl DeclaredBox for Name {
 }
 
 /// The names of the fields.
-const NAMES: &<NameShape as NamedShape>::Names = &names_of!(VERSION, FLAGS, run!("value", Text));
+pub const NAMES: &<NameShape as NamedShape>::Names = &names_of!(
+    VERSION,
+    FLAGS,
+    run!("value", Text)
+);
 
 impl HasFields for Name {
     ghost shown = { λ view b. ⟦<NameShape as NamedShape>⟧.shown NAMES.now view

@@ -50,7 +50,7 @@ impl DeclaredBox for Pitm {
 }
 
 /// The names of the fields.
-const NAMES: &<PitmShape as NamedShape>::Names = &names_of!(VERSION, FLAGS, number!("item_ID"));
+pub const NAMES: &<PitmShape as NamedShape>::Names = &names_of!(VERSION, FLAGS, number!("item_ID"));
 
 impl HasFields for Pitm {
     ghost shown = { λ view b. ⟦<PitmShape as NamedShape>⟧.shown NAMES.now view

@@ -76,7 +76,7 @@ impl DeclaredBox for Pssh {
 pub struct ProtectionSystem;
 
 /// Returns the name of the system whose UUID has these two halves, or an empty text (DASH-IF, "Content protection").
-fn system_name(high: u64, low: u64) -> &'static str
+pub fn system_name(high: u64, low: u64) -> &'static str
     ensures { result.now ≡ system_name high low }
 {
     if high == 0xedef_8ba9_79d6_4ace && low == 0xa3c8_27dc_d51d_21ed {
@@ -141,7 +141,7 @@ impl ShowShape<[u8; 16]> for ProtectionSystem {
 }
 
 /// The content of the box, for showing only.
-type PsshShown = Full<
+pub type PsshShown = Full<
     2,
     (
         ProtectionSystem,
@@ -151,7 +151,7 @@ type PsshShown = Full<
 >;
 
 /// The names of the fields.
-const NAMES: &<PsshShown as NamedShape>::Names = &names_of!(
+pub const NAMES: &<PsshShown as NamedShape>::Names = &names_of!(
     VERSION,
     FLAGS,
     ("SystemID", "SystemID_name"),

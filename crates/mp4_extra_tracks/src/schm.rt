@@ -64,7 +64,7 @@ impl DeclaredBox for Schm {
 const SCHEME_FLAGS: &[Meaning] = &[(0x1, "scheme_uri")];
 
 /// The names of the fields.
-const NAMES: &<SchmShape as NamedShape>::Names = &names_of!(
+pub const NAMES: &<SchmShape as NamedShape>::Names = &names_of!(
     VERSION,
     number!("flags", Flags(6), SCHEME_FLAGS),
     "scheme_type",

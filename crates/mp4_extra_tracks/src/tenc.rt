@@ -117,7 +117,7 @@ const PATTERN: &[NumberName] = &[
 ];
 
 /// The names of the fields.
-const NAMES: &<TencShape as NamedShape>::Names = &names_of!(
+pub const NAMES: &<TencShape as NamedShape>::Names = &names_of!(
     VERSION,
     FLAGS,
     PATTERN,

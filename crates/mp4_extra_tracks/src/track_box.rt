@@ -134,7 +134,7 @@ const TYPES: &[TrackType] = of_boxes!(types_held, TrackType);
 
 /// Returns the type of the boxes with the code `code`, if there is one.
 #[tactic(auto, unfolding(crate::specs::TrackBox::track_of_code))]
-fn type_of(code: u32) -> Option<TrackType>
+pub fn type_of(code: u32) -> Option<TrackType>
     ensures { result ≡ track_of_code code }
 {
     of_boxes!(type_by_code, TrackType, code)

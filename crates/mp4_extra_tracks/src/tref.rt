@@ -54,7 +54,7 @@ impl DeclaredEntry for TrackReference {
 }
 
 /// The names of the fields of a reference.
-const REFERENCE: &<TrackReferenceShape as NamedShape>::Names = &names_of!(
+pub const REFERENCE: &<TrackReferenceShape as NamedShape>::Names = &names_of!(
     "reference_type",
     "track_IDs"
 );
@@ -122,7 +122,7 @@ impl DeclaredBox for Tref {
 }
 
 /// The names of the fields.
-const NAMES: &<TrefShape as NamedShape>::Names = &names_of!(list!("references"));
+pub const NAMES: &<TrefShape as NamedShape>::Names = &names_of!(list!("references"));
 
 impl HasFields for Tref {
     ghost shown = { λ view b. ⟦<TrefShape as NamedShape>⟧.shown NAMES.now view

@@ -55,10 +55,10 @@ impl DeclaredBox for Urn {
 }
 
 /// The content of the box, for showing only. A location is shown if there are bytes for it.
-type UrnShown = Full<1, (Terminated, NamedBy<Rest>)>;
+pub type UrnShown = Full<1, (Terminated, NamedBy<Rest>)>;
 
 /// The names of the fields.
-const NAMES: &<UrnShown as NamedShape>::Names = &(
+pub const NAMES: &<UrnShown as NamedShape>::Names = &(
     VERSION,
     (
         number!("flags", Flags(6), REFERENCE),

@@ -1,0 +1,9 @@
+mod ChunkRuns
+mod CodeSteps
+mod DigitSteps
+mod Digits
+pub mod EachSteps
+mod Fixed
+mod Meanings
+mod NumberSteps
+mod Places
