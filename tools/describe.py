@@ -685,8 +685,8 @@ A field is present in each box of its type unless the last column says when it i
 
 ## Boxes from JSON
 
-`read_extra` of the crate [`mp4_from_json`](../crates/mp4_from_json/CALLING.md) reads a box back from its JSON, and
-`read_codec` one of the codec's 36 boxes. The JSON is an object with the fields of the box:
+`ExtraBox::from_json` reads a box back from its JSON, and `read_codec` of `mp4_show` one of the codec's 36 boxes
+([how](../crates/mp4_shown/CALLING.md#taking)). The JSON is an object with the fields of the box:
 
 - The names may have any order. A field that is missing, a name that the box doesn't have, and a name that comes
   twice are refused.

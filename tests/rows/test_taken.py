@@ -1,4 +1,4 @@
-"""Reads boxes back from their JSON, by the program test_probe: `mp4_from_json` takes the fields out of it.
+"""Reads boxes back from their JSON, by the program test_probe.
 
 The rows of this folder that have the fields of a box give one text each: these fields, and the box is that of the row,
 or the last box inside it. What is made has to be written in the bytes of that box. It is made once more with the names

@@ -7,10 +7,6 @@ mod extra_box;
 
 pub use extra_box::ExtraBox;
 pub use mp4_extra_pictures::picture_box::PictureBox;
-pub use mp4_extra_pictures::picture_box::type_of as picture_type;
 pub use mp4_extra_samples::sample_box::SampleBox;
-pub use mp4_extra_samples::sample_box::type_of as sample_type;
 pub use mp4_extra_sound::sound_box::SoundBox;
-pub use mp4_extra_sound::sound_box::type_of as sound_type;
 pub use mp4_extra_tracks::track_box::TrackBox;
-pub use mp4_extra_tracks::track_box::type_of as track_type;

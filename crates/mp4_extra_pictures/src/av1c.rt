@@ -6,6 +6,8 @@ ghost use Rattle.std.proofs.Common.{refl, lit<};
 ghost use Rattle.mp4_declared.specs.OwnBox.{layout_of};
 ghost use Rattle.mp4_declared.specs.Layout.{packed, fields_of};
 
+mod taken;
+
 use mp4_declared::{
     Bits, Declared, DeclaredBox, EntryLayout, Last, Rest, Shape, ShapeVisitor, box_of, entry_of,
     numbers_of, parts_of,
@@ -112,7 +114,7 @@ impl DeclaredBox for Av1c {
 }
 
 /// The names of the first four bytes. A delay is present.
-pub const CONFIG: &[NumberName] = &[
+const CONFIG: &[NumberName] = &[
     number!("marker"),
     number!("version"),
     number!("seq_profile"),
@@ -130,7 +132,7 @@ pub const CONFIG: &[NumberName] = &[
 ];
 
 /// The names of the first four bytes if no delay is present. Its bits are reserved then.
-pub const CONFIG_WITHOUT_DELAY: &[NumberName] = &[
+const CONFIG_WITHOUT_DELAY: &[NumberName] = &[
     number!("marker"),
     number!("version"),
     number!("seq_profile"),
@@ -148,10 +150,10 @@ pub const CONFIG_WITHOUT_DELAY: &[NumberName] = &[
 ];
 
 /// The content of the box, for showing only.
-pub type Av1cShown = (NamedBy<Bits<Av1Config, 14, 4>>, Last<Rest>);
+type Av1cShown = (NamedBy<Bits<Av1Config, 14, 4>>, Last<Rest>);
 
 /// The names of the fields.
-pub const NAMES: &<Av1cShown as NamedShape>::Names = &names_of!(
+const NAMES: &<Av1cShown as NamedShape>::Names = &names_of!(
     (CONFIG, CONFIG_WITHOUT_DELAY),
     run!("configOBUs", Bytes)
 );

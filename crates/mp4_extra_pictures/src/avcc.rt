@@ -16,6 +16,8 @@ ghost use Rattle.mp4_declared.specs.OwnBox.{layout_of};
 ghost use Rattle.mp4_declared.specs.DeclaredEntry.{exact_layout_of};
 ghost use Rattle.mp4_declared.specs.Layout.{packed, fields_of};
 
+mod taken;
+
 use crate::counted::Counted;
 use crate::tail::AtEnd;
 use mp4_declared::{
@@ -245,7 +247,7 @@ const FORMAT: &[NumberName] = &[
 ];
 
 /// The names of the fields of the part with the format of samples.
-pub const EXTENSION: &<AvcExtensionShape as NamedShape>::Names = &names_of!(
+const EXTENSION: &<AvcExtensionShape as NamedShape>::Names = &names_of!(
     FORMAT,
     list!(
         "sequenceParameterSetExtNALUnit",
@@ -270,7 +272,7 @@ impl HasFields for AvcExtension {
 }
 
 /// Returns whether a configuration of this `profile` has the format of samples.
-pub fn has_format(profile: u8) -> bool
+fn has_format(profile: u8) -> bool
     ensures { result ≡ has_format profile }
 {
     !(profile == 66 || (profile == 77 || profile == 88))
@@ -457,7 +459,7 @@ const SETS: &[NumberName] = &[
 ];
 
 /// The content of the box, for showing only.
-pub type AvccShown = (
+type AvccShown = (
     Bits<AvcConfig, 8, 6>,
     Each<U8, AvcNalUnit>,
     Each<U8, AvcNalUnit>,
@@ -465,7 +467,7 @@ pub type AvccShown = (
 );
 
 /// The names of the fields.
-pub const NAMES: &<AvccShown as NamedShape>::Names = &names_of!(
+const NAMES: &<AvccShown as NamedShape>::Names = &names_of!(
     SETS,
     list!("sequenceParameterSetNALUnit"),
     list!(

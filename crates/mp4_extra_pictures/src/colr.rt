@@ -14,6 +14,8 @@ ghost use Rattle.std.specs.Prelude.{◌≡◌, ◌∷◌, OnOk, length};
 ghost use Rattle.mp4_declared.specs.OwnBox.{layout_of};
 ghost use Rattle.mp4_declared.specs.Layout.{packed, fields_of};
 
+mod taken;
+
 use mp4_declared::{
     Bits, Declared, DeclaredBox, EntryLayout, Last, OfType, Rest, Shape, ShapeVisitor, Tag, Typed,
     box_of, entry_of, numbers_of, parts_of,
@@ -174,7 +176,7 @@ pub const MATRIX_COEFFICIENTS: &[Meaning] = &[
 ];
 
 /// The names of the numbers of `Nclx`. Those of `nclc` are the first three.
-pub const COLOURS: &[NumberName] = &[
+const COLOURS: &[NumberName] = &[
     number!("colour_primaries", Named, COLOUR_PRIMARIES),
     number!("transfer_characteristics", Named, TRANSFER_CHARACTERISTICS),
     number!("matrix_coefficients", Named, MATRIX_COEFFICIENTS),
@@ -183,10 +185,10 @@ pub const COLOURS: &[NumberName] = &[
 ];
 
 /// The names of the fields: of the type, of numbers, of a profile, and of bytes of an unknown type.
-pub const NAMES: ColourNames = ("colour_type", (COLOURS, ("ICC_profile", "data_bytes")));
+const NAMES: ColourNames = ("colour_type", (COLOURS, ("ICC_profile", "data_bytes")));
 
 /// The type of `NAMES`.
-pub type ColourNames = (
+type ColourNames = (
     &'static str,
     (&'static [NumberName], (&'static str, &'static str)),
 );

@@ -1,5 +1,7 @@
 //! The HEVC configuration box.
 
+ghost use Rattle.mp4_shown.specs.TakenShapes.{entry_made};
+ghost use Rattle.mp4_shown.specs.TakenShapes.{declared_taken};
 ghost use Rattle.mp4_extra_pictures.specs.declared.hvcc.TheConstants.{PROFILE_WIDTHS, FORMAT_WIDTHS, RATE_WIDTHS};
 ghost use Rattle.mp4_extra_pictures.specs.declared.hvcc.TheConstants.{NAMES};
 ghost use Rattle.mp4_frame.specs.declared.codes.TheConstants as codes;
@@ -12,14 +14,16 @@ ghost use Rattle.mp4_declared.specs.DeclaredEntry.{exact_layout_of};
 ghost use Rattle.mp4_declared.specs.Layout.{packed, fields_of};
 
 use mp4_declared::{
-    Bits, Bytes, Declared, DeclaredBox, DeclaredEntry, Each, EntryLayout, EntryVisitor, Last,
-    Shape, ShapeVisitor, U8, U16, box_of, clone_each, entry_of, numbers_of, parts_of,
+    Bits, Bytes, Context, Declared, DeclaredBox, DeclaredEntry, Each, EntryLayout, EntryVisitor,
+    Last, Shape, ShapeVisitor, U8, U16, box_of, clone_each, entry_of, numbers_of, parts_of,
 };
 use mp4_frame::{Entries, Result, TryClone, codes};
+use mp4_shown::taken::{self, Object, TakeEntry, TakeFields, TakeShape, take_declared, take_entry};
 use mp4_shown::{
     FieldSink, HasFields, Meaning, NamedShape, NumberName, ShowShape, ShownEntry, Value, View,
     list, names_of, number,
 };
+use std::alloc::Global;
 
 /// The requirements on a decoder. The names are those of HEVC (ISO/IEC 23008-2, 7.4.4).
 #[derive(Clone, Copy, Debug, Default, PartialEq, Eq)]
@@ -299,7 +303,7 @@ const KIND: &[NumberName] = &[
 ];
 
 /// The names of the fields of an array.
-pub const ARRAY: &<HevcArrayShape as NamedShape>::Names = &names_of!(KIND, list!("nalUnit"));
+const ARRAY: &<HevcArrayShape as NamedShape>::Names = &names_of!(KIND, list!("nalUnit"));
 
 impl ShownEntry for HevcArray {
     ghost shown = { λ view a. entry_of (⟦<HevcArrayShape as NamedShape>⟧.shown ARRAY.now view
@@ -318,6 +322,15 @@ impl ShownEntry for HevcArray {
             sink,
         )?;
         sink.end_entry()
+    }
+}
+
+impl TakeEntry for HevcArray {
+    ghost taken = { λ c j. entry_made ⟦<HevcArray as DeclaredEntry>⟧.layout.value
+        (⟦<HevcArrayShape as TakeShape>⟧.taken ARRAY.now c) j };
+
+    fn take(alloc: Global, context: Context, value: json::Value<'_>) -> taken::Result<HevcArray> {
+        take_entry::<HevcArray, HevcArrayShape>(alloc, ARRAY, context, value)
     }
 }
 
@@ -405,7 +418,7 @@ const RATE: &[NumberName] = &[
 ];
 
 /// The names of the fields.
-pub const NAMES: &<HvccShape as NamedShape>::Names = &names_of!(
+const NAMES: &<HvccShape as NamedShape>::Names = &names_of!(
     number!("configurationVersion"),
     PROFILE,
     FORMAT,
@@ -425,6 +438,14 @@ impl HasFields for Hvcc {
         let parts = parts_of!(self => configuration_version, profile, format, avg_frame_rate, rate,
             arrays.as_slice());
         HvccShape::show(NAMES, view, &parts, sink)
+    }
+}
+
+impl TakeFields for Hvcc {
+    ghost taken = { declared_taken ⟦<Hvcc as DeclaredBox>⟧.layout (⟦<HvccShape as TakeShape>⟧.taken NAMES.now) };
+
+    fn take(alloc: Global, object: &mut Object<'_>) -> taken::Result<Hvcc> {
+        take_declared::<Hvcc, HvccShape>(alloc, NAMES, object)
     }
 }
 

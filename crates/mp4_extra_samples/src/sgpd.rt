@@ -16,6 +16,8 @@ ghost use Rattle.mp4_shown.specs.Numbers.{shown_number, shown_numbers};
 ghost use Rattle.mp4_extra_samples.specs.declared.sgpd.TheConstants.{DESCRIPTION_LENGTH, ENCRYPTION};
 ghost use Rattle.mp4_declared.specs.OwnBox.{layout_of};
 
+mod taken;
+
 use mp4_declared::{
     Code, Declared, DeclaredBox, FromVersion, Full, If, Last, Rest, Shape, ShapeVisitor, U32,
     box_of, parts_of,
@@ -101,25 +103,25 @@ pub const TELE: u32 = 0x7465_6c65;
 pub const SEIG: u32 = 0x7365_6967;
 
 /// The name of the length of a description.
-pub const DESCRIPTION_LENGTH: NumberName = number!("description_length");
+const DESCRIPTION_LENGTH: NumberName = number!("description_length");
 
 /// The name of the field of `roll` and `prol`.
-pub const ROLL_DISTANCE: NumberName = number!("roll_distance");
+const ROLL_DISTANCE: NumberName = number!("roll_distance");
 
 /// The names of the fields of `rap `.
-pub const LEADING: &[NumberName] = &[
+const LEADING: &[NumberName] = &[
     number!("num_leading_samples_known"),
     number!("num_leading_samples"),
 ];
 
 /// The names of the fields of `tele`.
-pub const LEVEL: &[NumberName] = &[
+const LEVEL: &[NumberName] = &[
     number!("level_independently_decodable"),
     number!("reserved", Reserved(0)),
 ];
 
 /// The names of the numbers of `seig`.
-pub const ENCRYPTION: &[NumberName] = &[
+const ENCRYPTION: &[NumberName] = &[
     number!("reserved", Reserved(0)),
     number!("crypt_byte_block"),
     number!("skip_byte_block"),
@@ -128,13 +130,13 @@ pub const ENCRYPTION: &[NumberName] = &[
 ];
 
 /// The name of the key of `seig`.
-pub const KID: BytesName = run!("KID", Bytes);
+const KID: BytesName = run!("KID", Bytes);
 
 /// The name of the vector of `seig`, and that of its size.
-pub const CONSTANT_IV: BytesName = run!("constant_IV", Counted, "constant_IV_size");
+const CONSTANT_IV: BytesName = run!("constant_IV", Counted, "constant_IV_size");
 
 /// The name of a description of an unknown kind.
-pub const UNKNOWN: BytesName = run!("data_bytes", Bytes);
+const UNKNOWN: BytesName = run!("data_bytes", Bytes);
 
 /// The kind of a description.
 #[derive(Clone, Copy, Drop)]
@@ -152,7 +154,7 @@ pub enum GroupKind {
 }
 
 /// Returns the kind of the descriptions of a `grouping_type`.
-pub fn kind_of(grouping_type: u32) -> GroupKind
+fn kind_of(grouping_type: u32) -> GroupKind
     ensures { result ≡ kind_of grouping_type }
 {
     if grouping_type == ROLL {
@@ -190,7 +192,7 @@ fn constant_size(bytes: &[u8]) -> usize
 
 /// Returns the number of bytes of a description of this `kind` at the front of `bytes`, or one more than there are if
 /// it isn't known.
-pub fn usual_size(kind: GroupKind, bytes: &[u8]) -> usize
+fn usual_size(kind: GroupKind, bytes: &[u8]) -> usize
     ensures size { result ≡ usual_size kind bytes.now }
     ensures roll { kind ≡ kinds.Roll → 2 ≤ result }
     ensures encryption { kind ≡ kinds.Encryption → 20 ≤ result }
@@ -407,7 +409,7 @@ impl Pieces for Descriptions {
 }
 
 /// The content of the box, for showing only.
-pub type SgpdShown = Full<
+type SgpdShown = Full<
     3,
     (
         Code,
@@ -419,7 +421,7 @@ pub type SgpdShown = Full<
 >;
 
 /// The names of the fields.
-pub const NAMES: &<SgpdShown as NamedShape>::Names = &(
+const NAMES: &<SgpdShown as NamedShape>::Names = &(
     VERSION,
     (
         FLAGS,

@@ -12,6 +12,8 @@ ghost use Rattle.std.proofs.Common.{refl, lit<};
 ghost use Rattle.std.specs.Prelude.{◌≡◌, ◌≤◌, ◌^◌, OnOk, min};
 ghost use Rattle.mp4_declared.specs.OwnBox.{layout_of};
 
+mod taken;
+
 use mp4_declared::{
     Declared, DeclaredBox, Full, Last, Reserved, Rest, Shape, ShapeVisitor, U8, U32, box_of,
     parts_of,
@@ -139,7 +141,7 @@ pub struct SampleSizes;
 
 /// The names of the list of sizes, of the bits after an odd number of sizes of 4 bits, of the bytes if they are too
 /// few, and of bytes after the sizes.
-pub type SizesNames = (&'static str, (NumberName, (BytesName, BytesName)));
+type SizesNames = (&'static str, (NumberName, (BytesName, BytesName)));
 
 impl NamedShape for SampleSizes {
     type Value = (u8, (u32, Entries<u8>));
@@ -195,10 +197,10 @@ impl<'a> ShowShape<(u8, (u32, &'a [u8]))> for SampleSizes {
 }
 
 /// The content of the box, for showing only.
-pub type Stz2Shown = Full<1, (U8, U32, SampleSizes)>;
+type Stz2Shown = Full<1, (U8, U32, SampleSizes)>;
 
 /// The names of the fields.
-pub const NAMES: &<Stz2Shown as NamedShape>::Names = &(
+const NAMES: &<Stz2Shown as NamedShape>::Names = &(
     VERSION,
     (
         FLAGS,

@@ -10,6 +10,8 @@ ghost use Rattle.std.specs.Prelude.{◌≡◌, ◌≤◌, length};
 ghost use Rattle.mp4_declared.specs.OwnBox.{layout_of};
 ghost use Rattle.mp4_declared.specs.Layout.{packed, fields_of};
 
+mod taken;
+
 use mp4_declared::{
     Bits, Declared, DeclaredBox, EntryLayout, Full, Last, Rest, Shape, ShapeVisitor, U32, box_of,
     entry_of, numbers_of, parts_of,
@@ -107,7 +109,7 @@ impl DeclaredBox for Tfra {
 }
 
 /// The names of the sizes of the numbers in each entry.
-pub const LENGTHS: &[NumberName] = &[
+const LENGTHS: &[NumberName] = &[
     number!("reserved", Reserved(0)),
     number!("length_size_of_traf_num"),
     number!("length_size_of_trun_num"),
@@ -115,7 +117,7 @@ pub const LENGTHS: &[NumberName] = &[
 ];
 
 /// The names of the fields of an entry.
-pub const ACCESS: &[NumberName] = &[
+const ACCESS: &[NumberName] = &[
     number!("time"),
     number!("moof_offset"),
     number!("traf_number"),
@@ -184,10 +186,10 @@ impl Pieces for Accesses {
 }
 
 /// The content of the box, for showing only.
-pub type TfraShown = Full<2, (U32, Bits<TfraLengths, 4, 4>, U32, PiecesOf<Accesses>)>;
+type TfraShown = Full<2, (U32, Bits<TfraLengths, 4, 4>, U32, PiecesOf<Accesses>)>;
 
 /// The names of the fields.
-pub const NAMES: &<TfraShown as NamedShape>::Names = &(
+const NAMES: &<TfraShown as NamedShape>::Names = &(
     VERSION,
     (
         FLAGS,

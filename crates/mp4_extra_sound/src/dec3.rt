@@ -10,6 +10,8 @@ ghost use Rattle.mp4_declared.specs.Bits.{split};
 ghost use Rattle.mp4_declared.specs.OwnBox.{layout_of};
 ghost use Rattle.mp4_declared.specs.Layout.{packed, fields_of};
 
+mod taken;
+
 use mp4_declared::{
     Bits, Declared, DeclaredBox, EntryLayout, Last, Rest, Shape, ShapeVisitor, box_of, entry_of,
     numbers_of, parts_of,
@@ -99,10 +101,10 @@ impl DeclaredBox for Dec3 {
 }
 
 /// The names of the bit rate and the number of streams.
-pub const CONFIG: &[NumberName] = &[number!("data_rate"), number!("num_ind_sub")];
+const CONFIG: &[NumberName] = &[number!("data_rate"), number!("num_ind_sub")];
 
 /// The names of a stream on which none depends.
-pub const STREAM: &[NumberName] = &[
+const STREAM: &[NumberName] = &[
     number!("fscod"),
     number!("bsid"),
     number!("reserved_before_asvc", Reserved(0)),
@@ -116,10 +118,10 @@ pub const STREAM: &[NumberName] = &[
 ];
 
 /// Their widths, in bits.
-pub const STREAM_WIDTHS: [u8; 10] = [2, 5, 1, 1, 3, 3, 1, 3, 4, 1];
+const STREAM_WIDTHS: [u8; 10] = [2, 5, 1, 1, 3, 3, 1, 3, 4, 1];
 
 /// The names of a stream on which others depend.
-pub const PARENT: &[NumberName] = &[
+const PARENT: &[NumberName] = &[
     number!("fscod"),
     number!("bsid"),
     number!("reserved_before_asvc", Reserved(0)),
@@ -133,7 +135,7 @@ pub const PARENT: &[NumberName] = &[
 ];
 
 /// Their widths, in bits.
-pub const PARENT_WIDTHS: [u8; 10] = [2, 5, 1, 1, 3, 3, 1, 3, 4, 9];
+const PARENT_WIDTHS: [u8; 10] = [2, 5, 1, 1, 3, 3, 1, 3, 4, 9];
 
 /// Returns the numbers of the stream at the front of `bytes`, on which none depends.
 fn stream_numbers(bytes: &[u8]) -> [u64; 10]
@@ -207,10 +209,10 @@ impl Pieces for Streams {
 }
 
 /// The content of the box, for showing only.
-pub type Dec3Shown = (Bits<Ec3Config, 2, 2>, PiecesOf<Streams>);
+type Dec3Shown = (Bits<Ec3Config, 2, 2>, PiecesOf<Streams>);
 
 /// The names of the fields.
-pub const NAMES: &<Dec3Shown as NamedShape>::Names = &(
+const NAMES: &<Dec3Shown as NamedShape>::Names = &(
     CONFIG,
     (
         list!("substreams"),

@@ -14,6 +14,8 @@ ghost use Rattle.mp4_declared.specs.OwnBox.{layout_of};
 ghost use Rattle.mp4_declared.specs.DeclaredEntry.{exact_layout_of};
 ghost use Rattle.mp4_declared.specs.Layout.{packed, fields_of};
 
+mod taken;
+
 use mp4_declared::{
     Bits, Bytes, Count, Declared, DeclaredBox, DeclaredEntry, EachToEnd, EntryLayout, EntryVisitor,
     Full, Last, Shape, ShapeVisitor, box_of, clone_each, entry_of, numbers_of, parts_of,
@@ -115,7 +117,7 @@ pub const BLOCK_TYPES: &[Meaning] = &[
 pub struct BlockData;
 
 /// The names of the number of bytes, of the numbers and the checksum of a STREAMINFO, and of other data.
-pub type BlockDataNames = (NumberName, (&'static [NumberName], (BytesName, BytesName)));
+type BlockDataNames = (NumberName, (&'static [NumberName], (BytesName, BytesName)));
 
 impl NamedShape for BlockData {
     type Value = (u8, Entries<u8>);
@@ -211,16 +213,16 @@ impl<'a> ShowShape<(u8, &'a [u8])> for BlockData {
 }
 
 /// A block, for showing only.
-pub type BlockShown = (Bits<FlacBlockKind, 2, 1>, BlockData);
+type BlockShown = (Bits<FlacBlockKind, 2, 1>, BlockData);
 
 /// The names of the kind of a block.
-pub const KIND: &[NumberName] = &[
+const KIND: &[NumberName] = &[
     number!("LastMetadataBlockFlag"),
     number!("BlockType", Named, BLOCK_TYPES),
 ];
 
 /// The names of the numbers of a STREAMINFO.
-pub const STREAM: &[NumberName] = &[
+const STREAM: &[NumberName] = &[
     number!("minimum_block_size"),
     number!("maximum_block_size"),
     number!("minimum_frame_size"),
@@ -232,7 +234,7 @@ pub const STREAM: &[NumberName] = &[
 ];
 
 /// The names of the fields of a block.
-pub const BLOCK: &<BlockShown as NamedShape>::Names = &(
+const BLOCK: &<BlockShown as NamedShape>::Names = &(
     KIND,
     (
         number!("Length"),
@@ -306,7 +308,7 @@ impl DeclaredBox for Dfla {
 }
 
 /// The names of the fields.
-pub const NAMES: &<DflaShape as NamedShape>::Names = &names_of!(
+const NAMES: &<DflaShape as NamedShape>::Names = &names_of!(
     VERSION,
     FLAGS,
     list!("metadata_blocks")

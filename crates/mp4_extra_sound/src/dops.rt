@@ -8,6 +8,8 @@ ghost use Rattle.mp4_shown.specs.Runs.{seen_bytes};
 ghost use Rattle.std.proofs.Common.{refl, lit<};
 ghost use Rattle.mp4_declared.specs.OwnBox.{layout_of};
 
+mod taken;
+
 use mp4_declared::{
     Declared, DeclaredBox, I16, Last, Rest, Shape, ShapeVisitor, U8, U16, U32, box_of, parts_of,
 };
@@ -110,10 +112,10 @@ impl<'a> ShowShape<&'a [u8]> for ChannelMapping {
 }
 
 /// The content of the box, for showing only.
-pub type DopsShown = (U8, U8, U16, U32, (I16, U8, Last<ChannelMapping>));
+type DopsShown = (U8, U8, U16, U32, (I16, U8, Last<ChannelMapping>));
 
 /// The names of the fields. The gain is in decibels.
-pub const NAMES: &<DopsShown as NamedShape>::Names = &names_of!(
+const NAMES: &<DopsShown as NamedShape>::Names = &names_of!(
     number!("Version"),
     number!("OutputChannelCount"),
     number!("PreSkip"),

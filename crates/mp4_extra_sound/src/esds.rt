@@ -16,6 +16,8 @@ ghost use Rattle.mp4_declared.specs.OwnBox.{layout_of};
 ghost use Rattle.mp4_declared.specs.DeclaredEntry.{exact_layout_of};
 ghost use Rattle.mp4_declared.specs.Layout.{packed, fields_of};
 
+mod taken;
+
 use crate::audio_config::AudioShown;
 use crate::descriptors::{DescriptorTag, Expandable, Tagged};
 use mp4_declared::{
@@ -72,7 +74,7 @@ impl TryClone for Descriptor {
 }
 
 /// The name of the number of a predefined configuration of the synchronization layer (ISO/IEC 14496-1, 7.3.2.3.2).
-pub const PREDEFINED: NumberName = number!("predefined", Named, PREDEFINED_CONFIGURATIONS);
+const PREDEFINED: NumberName = number!("predefined", Named, PREDEFINED_CONFIGURATIONS);
 
 /// The predefined configurations.
 const PREDEFINED_CONFIGURATIONS: &[Meaning] = &[
@@ -82,7 +84,7 @@ const PREDEFINED_CONFIGURATIONS: &[Meaning] = &[
 ];
 
 /// The names of the numbers of a configuration that isn't predefined. The standard sets the reserved bits.
-pub const LAYER: &[NumberName] = &[
+const LAYER: &[NumberName] = &[
     number!("useAccessUnitStartFlag"),
     number!("useAccessUnitEndFlag"),
     number!("useRandomAccessPointFlag"),
@@ -104,10 +106,10 @@ pub const LAYER: &[NumberName] = &[
 ];
 
 /// The name of the bytes after the numbers of a configuration.
-pub const LAYER_REST: BytesName = run!("data_bytes", SomeBytes);
+const LAYER_REST: BytesName = run!("data_bytes", SomeBytes);
 
 /// The name of the bytes of another descriptor.
-pub const CONTENT: BytesName = run!("data_bytes", Bytes);
+const CONTENT: BytesName = run!("data_bytes", Bytes);
 
 /// Returns the numbers of a configuration of the synchronization layer that isn't predefined.
 #[tactic(auto, unfolding(crate::specs::ShownDescriptors::layer_numbers))]
@@ -237,10 +239,10 @@ const TAGS: &[Meaning] = &[
 ];
 
 /// A descriptor, for showing only.
-pub type DescriptorShown = (U8, (U8, DescriptorContent));
+type DescriptorShown = (U8, (U8, DescriptorContent));
 
 /// The names of the fields of a descriptor. A size in one byte is usual.
-pub const DESCRIPTOR_NAMES: &<DescriptorShown as NamedShape>::Names = &(
+const DESCRIPTOR_NAMES: &<DescriptorShown as NamedShape>::Names = &(
     number!("tag", Named, TAGS),
     (number!("size_bytes", Reserved(1)), ()),
 );
@@ -437,7 +439,7 @@ const STREAMS: &[NumberName] = &[
 ];
 
 /// Returns the bytes of a configuration of MPEG-4 audio, or none.
-pub fn audio_bytes(kind: u8, descriptors: &[Descriptor]) -> &[u8]
+fn audio_bytes(kind: u8, descriptors: &[Descriptor]) -> &[u8]
     ensures { result.now ≡ audio_bytes kind descriptors.now }
 {
     match descriptors.first() {
@@ -447,10 +449,10 @@ pub fn audio_bytes(kind: u8, descriptors: &[Descriptor]) -> &[u8]
 }
 
 /// The configuration of a decoder without its descriptors, for showing only.
-pub type ConfigShown = (U8, U8, Bits<DecoderStream, 4, 4>, U32, (U32, AudioShown));
+type ConfigShown = (U8, U8, Bits<DecoderStream, 4, 4>, U32, (U32, AudioShown));
 
 /// The names of the fields of the configuration.
-pub const CONFIG: &<ConfigShown as NamedShape>::Names = &(
+const CONFIG: &<ConfigShown as NamedShape>::Names = &(
     number!("size_bytes", Reserved(1)),
     (
         number!("objectTypeIndication", Named, OBJECT_TYPES),
@@ -639,7 +641,7 @@ const FLAG_NAMES: &[NumberName] = &[
 ];
 
 /// The options, for showing only.
-pub type EsOptionsShown = (
+type EsOptionsShown = (
     Bits<EsFlags, 4, 1>,
     If<IfFlags<4>, U16>,
     If<IfFlags<2>, Bytes<U8>>,
@@ -647,7 +649,7 @@ pub type EsOptionsShown = (
 );
 
 /// The names of the options.
-pub const OPTIONS: &<EsOptionsShown as NamedShape>::Names = &names_of!(
+const OPTIONS: &<EsOptionsShown as NamedShape>::Names = &names_of!(
     FLAG_NAMES,
     number!("dependsOn_ES_ID"),
     run!("URLstring", Text),
@@ -816,7 +818,7 @@ impl TryClone for EsDescriptor {
 }
 
 /// The descriptor, for showing only.
-pub type EsShown = (
+type EsShown = (
     U8,
     U16,
     Nested<EsOptions>,
@@ -825,7 +827,7 @@ pub type EsShown = (
 );
 
 /// The names of the fields of the descriptor.
-pub const ES: &<EsShown as NamedShape>::Names = &names_of!(
+const ES: &<EsShown as NamedShape>::Names = &names_of!(
     number!("ES_Descriptor_size_bytes", Reserved(1)),
     number!("ES_ID"),
     (),
@@ -916,7 +918,7 @@ impl DeclaredBox for Esds {
 }
 
 /// The names of the fields.
-pub const NAMES: &<EsdsShape as NamedShape>::Names = &names_of!(
+const NAMES: &<EsdsShape as NamedShape>::Names = &names_of!(
     VERSION,
     FLAGS,
     (),

@@ -7,6 +7,8 @@ ghost use Rattle.mp4_declared.specs.OwnBox.{layout_of};
 ghost use Rattle.mp4_declared.specs.DeclaredEntry.{exact_layout_of};
 ghost use Rattle.mp4_declared.specs.Layout.{packed, fields_of};
 
+mod taken;
+
 use mp4_declared::{
     Bits, Declared, DeclaredBox, DeclaredEntry, EntryLayout, EntryVisitor, I8, I16, Last, Reserved,
     Rest, Shape, ShapeVisitor, U8, U16, U32, box_of, entry_of, numbers_of, parts_of,
@@ -97,7 +99,7 @@ impl DeclaredEntry for BoxRecord {
 }
 
 /// The names of the edges.
-pub const CORNERS: &<BoxRecordShape as NamedShape>::Names = &names_of!(
+const CORNERS: &<BoxRecordShape as NamedShape>::Names = &names_of!(
     number!("top"),
     number!("left"),
     number!("bottom"),
@@ -217,10 +219,10 @@ impl EntryLayout<9, 12> for StyleRecord {
 const FACES: &[Meaning] = &[(1, "bold"), (2, "italic"), (4, "underline")];
 
 /// A style, for showing only.
-pub type StyleShown = (U16, U16, U16, U8, (U8, Last<Group<Bits<TextColor, 4, 4>>>));
+type StyleShown = (U16, U16, U16, U8, (U8, Last<Group<Bits<TextColor, 4, 4>>>));
 
 /// The names of the fields of a style.
-pub const STYLE: <StyleShown as NamedShape>::Names = names_of!(
+const STYLE: <StyleShown as NamedShape>::Names = names_of!(
     number!("startChar"),
     number!("endChar"),
     number!("font-ID"),
@@ -305,7 +307,7 @@ const DISPLAY_FLAGS: &[Meaning] = &[
 ];
 
 /// The content of the box without its boxes, for showing only.
-pub type Tx3gShown = (
+type Tx3gShown = (
     U16,
     U32,
     I8,
@@ -318,7 +320,7 @@ pub type Tx3gShown = (
 );
 
 /// The names of the fields.
-pub const NAMES: &<Tx3gShown as NamedShape>::Names = &names_of!(
+const NAMES: &<Tx3gShown as NamedShape>::Names = &names_of!(
     number!("data_reference_index"),
     number!("displayFlags", Flags(8), DISPLAY_FLAGS),
     number!("horizontal-justification"),

@@ -14,6 +14,8 @@ ghost use Rattle.std.proofs.Common.{refl, lit<};
 ghost use Rattle.std.specs.Prelude.{◌≡◌, ◌==◌, ◌||◌, true, OnOk, length};
 ghost use Rattle.mp4_declared.specs.OwnBox.{layout_of};
 
+mod taken;
+
 use mp4_declared::{
     Declared, DeclaredBox, Last, Rest, Shape, ShapeVisitor, U8, U16, U24, box_of, parts_of,
 };
@@ -251,7 +253,7 @@ fn kind_of(is_known: bool, data_type: u32, count: usize) -> ValueKind
 }
 
 /// Returns the signed number in 1, 2, 4 or 8 bytes.
-pub fn signed_in(bytes: &[u8]) -> i64
+fn signed_in(bytes: &[u8]) -> i64
     requires { (length bytes.now == 1 || (length bytes.now == 2 || (length bytes.now == 4 || length bytes.now == 8)))
         ≡ true }
     ensures { result ≡ signed_in bytes.now }
@@ -268,7 +270,7 @@ pub fn signed_in(bytes: &[u8]) -> i64
 }
 
 /// Returns the number of bytes that a signed number has if they aren't shown.
-pub fn signed_width(number: i64) -> usize
+fn signed_width(number: i64) -> usize
     ensures { result ≡ signed_width number }
 {
     if -128 <= number && number <= 127 {
@@ -283,7 +285,7 @@ pub fn signed_width(number: i64) -> usize
 }
 
 /// Returns the number of bytes that an unsigned number has if they aren't shown.
-pub fn unsigned_width(number: u64) -> usize
+fn unsigned_width(number: u64) -> usize
     ensures { result ≡ unsigned_width number }
 {
     if number <= 255 {
@@ -301,7 +303,7 @@ pub fn unsigned_width(number: u64) -> usize
 pub struct TypedValue;
 
 /// The names of a text, of a number, of the bytes of a number, and of other bytes.
-pub type ValueNames = (BytesName, (&'static str, (BytesName, BytesName)));
+type ValueNames = (BytesName, (&'static str, (BytesName, BytesName)));
 
 /// Hands a number to a sink, and its bytes unless they are `width`.
 fn put_number_of<K: FieldSink>(
@@ -396,10 +398,10 @@ impl<'a> ShowShape<(bool, (u32, &'a [u8]))> for TypedValue {
 }
 
 /// The content of the box, for showing only. A type of another set than the well-known ones has no meaning.
-pub type DataShown = (U8, NamedBy<U24>, Country, Language, TypedValue);
+type DataShown = (U8, NamedBy<U24>, Country, Language, TypedValue);
 
 /// The names of the fields.
-pub const NAMES: &<DataShown as NamedShape>::Names = &(
+const NAMES: &<DataShown as NamedShape>::Names = &(
     number!("type_set", Reserved(0)),
     (
         (

@@ -7,6 +7,8 @@ ghost use Rattle.mp4_declared.specs.OwnBox.{layout_of};
 ghost use Rattle.std.proofs.Common.{refl, lit<};
 ghost use Rattle.std.specs.Prelude.{◌≡◌};
 
+mod taken;
+
 use crate::item_id::ItemId;
 use mp4_declared::Code;
 use mp4_declared::declaring::*;
@@ -81,7 +83,7 @@ impl DeclaredBox for Infe {
 }
 
 /// Returns whether `item_type` has the code `code`.
-pub fn is_type(code: u32, item_type: Option<FourCC>) -> bool
+fn is_type(code: u32, item_type: Option<FourCC>) -> bool
     ensures { result ≡ is_type code item_type }
 {
     match item_type {
@@ -91,7 +93,7 @@ pub fn is_type(code: u32, item_type: Option<FourCC>) -> bool
 }
 
 /// The content of the box, for showing only. The name of the last bytes depends on the type of the item.
-pub type InfeShown = Full<
+type InfeShown = Full<
     4,
     (
         ItemId<3>,
@@ -106,7 +108,7 @@ pub type InfeShown = Full<
 const ITEM_FLAGS: &[Meaning] = &[(0x1, "hidden")];
 
 /// The names of the fields.
-pub const NAMES: &<InfeShown as NamedShape>::Names = &(
+const NAMES: &<InfeShown as NamedShape>::Names = &(
     VERSION,
     (
         number!("flags", Flags(6), ITEM_FLAGS),

@@ -1,5 +1,7 @@
 //! The item property association box.
 
+ghost use Rattle.mp4_shown.specs.TakenShapes.{entry_made};
+ghost use Rattle.mp4_shown.specs.TakenShapes.{declared_taken};
 ghost use Rattle.mp4_extra_tracks.specs.ItemId.{item_width, some_item};
 ghost use Rattle.mp4_extra_tracks.specs.declared.ipma.TheConstants.{ENTRY, LONG, NAMES, SHORT};
 ghost use Rattle.mp4_frame.specs.declared.codes.TheConstants as codes;
@@ -16,10 +18,12 @@ use crate::item_id::ItemId;
 use mp4_declared::declaring::*;
 use mp4_declared::{Condition, Context, clone_each};
 use mp4_frame::{Result, codes};
+use mp4_shown::taken::{self, Object, TakeEntry, TakeFields, TakeShape, take_declared, take_entry};
 use mp4_shown::{
     FieldSink, HasFields, Meaning, NamedShape, NumberName, ShowShape, ShownEntry, VERSION, View,
     list, names_of, number, show_shape,
 };
+use std::alloc::Global;
 
 /// The condition that no flag of `MASK` is set.
 pub struct WithoutFlags<const MASK: u32>;
@@ -138,7 +142,7 @@ impl DeclaredEntry for ItemProperties {
 const ASSOCIATION: &[NumberName] = &[number!("essential"), number!("property_index")];
 
 /// The names of the fields of an item.
-pub const ENTRY: &<ItemPropertiesShape as NamedShape>::Names = &names_of!(
+const ENTRY: &<ItemPropertiesShape as NamedShape>::Names = &names_of!(
     number!("item_ID"),
     (list!("associations"), ASSOCIATION),
     (list!("associations"), ASSOCIATION)
@@ -166,6 +170,19 @@ impl ShownEntry for ItemProperties {
         let parts = parts_of!(self => item_id, = associations, = long_associations);
         show_shape::<ItemPropertiesShape, _, K>(ENTRY, view, &parts, sink)?;
         sink.end_entry()
+    }
+}
+
+impl TakeEntry for ItemProperties {
+    ghost taken = { λ c j. entry_made ⟦<ItemProperties as DeclaredEntry>⟧.layout.value
+        (⟦<ItemPropertiesShape as TakeShape>⟧.taken ENTRY.now c) j };
+
+    fn take(
+        alloc: Global,
+        context: Context,
+        value: json::Value<'_>,
+    ) -> taken::Result<ItemProperties> {
+        take_entry::<ItemProperties, ItemPropertiesShape>(alloc, ENTRY, context, value)
     }
 }
 
@@ -228,7 +245,7 @@ impl DeclaredBox for Ipma {
 const PROPERTY_FLAGS: &[Meaning] = &[(0x1, "property_index of 15 bits")];
 
 /// The names of the fields.
-pub const NAMES: &<IpmaShape as NamedShape>::Names = &names_of!(
+const NAMES: &<IpmaShape as NamedShape>::Names = &names_of!(
     VERSION,
     number!("flags", Flags(6), PROPERTY_FLAGS),
     list!("entries", Counted, "entry_count")
@@ -244,6 +261,14 @@ impl HasFields for Ipma {
     fn show<K: FieldSink>(&self, view: View, sink: &mut K) -> mp4_shown::Result<()> {
         let parts = parts_of!(self => version, flags, entries.as_slice());
         IpmaShape::show(NAMES, view, &parts, sink)
+    }
+}
+
+impl TakeFields for Ipma {
+    ghost taken = { declared_taken ⟦<Ipma as DeclaredBox>⟧.layout (⟦<IpmaShape as TakeShape>⟧.taken NAMES.now) };
+
+    fn take(alloc: Global, object: &mut Object<'_>) -> taken::Result<Ipma> {
+        take_declared::<Ipma, IpmaShape>(alloc, NAMES, object)
     }
 }
 

@@ -9,6 +9,8 @@ ghost use Rattle.std.proofs.Common.{refl, lit<};
 ghost use Rattle.std.specs.Prelude.{◌≡◌, OnOk};
 ghost use Rattle.mp4_declared.specs.OwnBox.{layout_of};
 
+mod taken;
+
 use mp4_declared::{
     Array, Bytes, Declared, DeclaredBox, FromVersion, Full, If, Last, Rows, Shape, ShapeVisitor,
     U32, box_of, parts_of,
@@ -76,7 +78,7 @@ impl DeclaredBox for Pssh {
 pub struct ProtectionSystem;
 
 /// Returns the name of the system whose UUID has these two halves, or an empty text (DASH-IF, "Content protection").
-pub fn system_name(high: u64, low: u64) -> &'static str
+fn system_name(high: u64, low: u64) -> &'static str
     ensures { result.now ≡ system_name high low }
 {
     if high == 0xedef_8ba9_79d6_4ace && low == 0xa3c8_27dc_d51d_21ed {
@@ -141,7 +143,7 @@ impl ShowShape<[u8; 16]> for ProtectionSystem {
 }
 
 /// The content of the box, for showing only.
-pub type PsshShown = Full<
+type PsshShown = Full<
     2,
     (
         ProtectionSystem,
@@ -151,7 +153,7 @@ pub type PsshShown = Full<
 >;
 
 /// The names of the fields.
-pub const NAMES: &<PsshShown as NamedShape>::Names = &names_of!(
+const NAMES: &<PsshShown as NamedShape>::Names = &names_of!(
     VERSION,
     FLAGS,
     ("SystemID", "SystemID_name"),

@@ -6,6 +6,8 @@ ghost use Rattle.std.proofs.Common.{refl, lit<};
 ghost use Rattle.std.specs.Prelude.{nat_lt, length};
 ghost use Rattle.mp4_declared.specs.OwnBox.{layout_of};
 
+mod taken;
+
 use crate::alis::REFERENCE;
 use mp4_declared::{
     Declared, DeclaredBox, Full, Last, Rest, Shape, ShapeVisitor, Terminated, box_of, parts_of,
@@ -55,10 +57,10 @@ impl DeclaredBox for Urn {
 }
 
 /// The content of the box, for showing only. A location is shown if there are bytes for it.
-pub type UrnShown = Full<1, (Terminated, NamedBy<Rest>)>;
+type UrnShown = Full<1, (Terminated, NamedBy<Rest>)>;
 
 /// The names of the fields.
-pub const NAMES: &<UrnShown as NamedShape>::Names = &(
+const NAMES: &<UrnShown as NamedShape>::Names = &(
     VERSION,
     (
         number!("flags", Flags(6), REFERENCE),

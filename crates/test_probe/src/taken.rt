@@ -2,7 +2,8 @@
 
 use crate::push_record;
 use mp4_extra::ExtraBox;
-use mp4_from_json::{Error, Result as Taken, read_codec, read_extra};
+use mp4_show::read_codec;
+use mp4_shown::taken::{Error, Result as Taken};
 use mp4_shown_json::JsonSink;
 use mp4_stream::{AnyBox, BoxType, ByteCursor, Mp4Box, WriteBox, read_boxes_as};
 use std::alloc::{AllocError, Global};
@@ -27,7 +28,7 @@ fn text_of<B: WriteBox>(
 
 /// Appends a record of the declared box with the code `code` that is made of the JSON `text`.
 fn show_extra(alloc: Global, code: u32, text: &str, out: &mut Vec<u8>) -> Result<(), AllocError> {
-    let found = read_extra(alloc, code, text);
+    let found = ExtraBox::from_json(alloc, code, text);
     push_record(&text_of(alloc, &found)?, out)
 }
 
@@ -114,7 +115,7 @@ fn push_extra_line(
     let Some(text) = text else {
         return lines.push_str("the text is not UTF-8\n");
     };
-    let found = read_extra(alloc, u32::from(value.box_type()), text.as_str());
+    let found = ExtraBox::from_json(alloc, u32::from(value.box_type()), text.as_str());
     push_line(alloc, value, &found, lines)
 }
 

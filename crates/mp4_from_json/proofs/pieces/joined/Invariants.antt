@@ -1,6 +1,0 @@
-use Rattle.std.proofs.Common.{◌≡◌, take}
-use Rattle.mp4_from_json.specs.Pieces.{concat}
-use Rattle.mp4_from_json.proofs.pieces.joined.Given as goal
-
-abbrev pub invariant-loop-piece : goal.invariant-loop-piece
-invariant-loop-piece l = l.bytes.items ≡ concat (take l.piece-index l.pieces)
