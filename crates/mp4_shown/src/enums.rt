@@ -5,7 +5,7 @@ ghost use Rattle.std.specs.Prelude.{◌≡◌, ℕ, ◌+◌, ◌-◌, ◌≤◌,
 ghost use Rattle.mp4_frame.specs.Members.{some_box};
 ghost use Rattle.mp4_frame.specs.Reading.{Answers, map_reading, reading};
 ghost use Rattle.mp4_shown.specs.Catalogue.{Catalogue, Declaration, Declarations, declared_as, format_as, inside};
-ghost use Rattle.mp4_shown.specs.Catalogue.{reads_as, shown};
+ghost use Rattle.mp4_shown.specs.Catalogue.{reads_as, shown, type_document};
 ghost use Rattle.mp4_shown.specs.Hands.{Hands};
 ghost use Rattle.mp4_shown.specs.TakenShapes.{document_taken};
 ghost use Rattle.mp4_shown.specs.Taking.{TakesAs, ◌>>=◌};
@@ -106,17 +106,30 @@ pub fn read_declared<T: DeclaredBox + HasFields + TakeFields, E: Holds<Declared<
     read_as::<Declared<T>, E>(alloc, reader, size)
 }
 
-/// Returns the declared box of the type `T` whose JSON is `text`, as an `E`.
+/// Returns the declared box with the fields of a `T` whose JSON is `text`, as an `E`.
 #[inline]
-pub fn take_held<T: DeclaredBox + HasFields + TakeFields, E: Holds<Declared<T>>>(
-    alloc: Global,
-    text: &str,
-) -> taken::Result<E>
-    ensures { TakesAs (λ b. b) result (document_taken ⟦<T as Described>⟧.declaration.taken (document text.now)
-        >>= λ b. Ok (E.wrapped b)) }
+fn take_as<T: TakeFields, E: Holds<Declared<T>>>(alloc: Global, text: &str) -> taken::Result<E>
+    ensures { TakesAs (λ b. b) result (document_taken T.taken (document text.now) >>= λ b. Ok (E.wrapped b)) }
 {
     let fields: T = read_box(alloc, text)?;
     Ok(E::wrap(Declared::new(fields)))
+}
+
+/// Returns the box of the type `of` whose JSON is `text`. The type is `kind`, which has the fields of a `T`. An arm that
+/// calls it needs no answer.
+#[inline]
+pub fn take_held<T: DeclaredBox + HasFields + TakeFields, E: Catalogued + Holds<Declared<T>>>(
+    of: E::Of,
+    kind: E::Of,
+    alloc: Global,
+    text: &str,
+) -> taken::Result<E>
+    requires is { of ≡ kind }
+    requires alike { type_document E.catalogue E.declared kind (document text.now)
+        ≡ (document_taken T.TakeFields.taken (document text.now) >>= λ b. Ok (E.wrapped b)) }
+    ensures { TakesAs (λ b. b) result (type_document E.catalogue E.declared of (document text.now)) }
+{
+    take_as::<T, E>(alloc, text)
 }
 
 /// Matches on a value of the enum `$enum` with the same arm for each variant: it binds the box inside and evaluates the
@@ -176,7 +189,7 @@ macro_rules! take_by_type {
     ([$($fields:ident $held:ident $($code:ident)::+),*] $types:ident, $enum:ident, $of:expr, $alloc:expr,
         $text:expr) => {
         match $of {
-            $($types::$held => $crate::take_held::<$fields, $enum>($alloc, $text),)*
+            $($types::$held => $crate::take_held::<$fields, $enum>($of, $types::$held, $alloc, $text),)*
         }
     };
 }
