@@ -28,8 +28,8 @@ none_if_more cs more =
 -- a character that is no byte
 pub none_if_large : (cs : List ℕ) (n c : ℕ) → (n < length cs) × (c ≡ get_or cs n c) → 256 ≤ c → four_bytes cs ≡ None
 none_if_large cs n c at large =
-    let no : is_byte (get_or cs n c) ≡ false = le-ltb 256 (get_or cs n c) (omega (arith, at.1, large)) in
-    ap (λ (b : Bool). if (length cs == 4) && b then Some cs else None) (list_all_at is_byte cs n c at.0 no)
+    let off : is_byte (get_or cs n c) ≡ false = le-ltb (get_or cs n c) 256 (omega (arith, at.1, large)) in
+    ap (λ (b : Bool). if (length cs == 4) && b then Some cs else None) (list_all_at is_byte cs n c at.0 off)
     ∙ ap (λ (b : Bool). if b then Some cs else None) (and_false (length cs == 4))
 
 -- The first n characters are the bytes of a value.
@@ -65,5 +65,5 @@ some_if_four cs value four are =
 
 pub none_if_few : (cs : List ℕ) → length cs < 4 → four_bytes cs ≡ None
 none_if_few cs few =
-    let no : (length cs == 4) ≡ false = grind arith in
-    ap (λ (b : Bool). if b && list_all is_byte cs then Some cs else None) no
+    let off : (length cs == 4) ≡ false = grind arith in
+    ap (λ (b : Bool). if b && list_all is_byte cs then Some cs else None) off

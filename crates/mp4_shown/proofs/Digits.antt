@@ -50,10 +50,10 @@ unsigned_some ds n parsed =
 unsigned_none : (ds : List ℕ) (b c : Bool) → is_numeral ds ≡ b → nat_lt (digits_value 10 ds) (2 ^ 64) ≡ c
     → ¬ (IsNumeral 10 ds × (digits_value 10 ds < 2 ^ 64))
     → None ≡ unsigned_if ds (b && c)
-unsigned_none ds true true is small no =
-    absurd (no (numeral_from ds is, ltb-true (digits_value 10 ds) (2 ^ 64) small))
-unsigned_none ds true false is small no = refl
-unsigned_none ds false c is small no = refl
+unsigned_none ds true true is small never =
+    absurd (never (numeral_from ds is, ltb-true (digits_value 10 ds) (2 ^ 64) small))
+unsigned_none ds true false is small never = refl
+unsigned_none ds false c is small never = refl
 
 pub unsigned_is : (o : Option (List ℕ)) (r : Option ℕ)
     → MatchOption o (r ≡ None) (λ s. ParsesUnsigned 64 10 s (ok_or r s))
@@ -103,13 +103,13 @@ signed_none : (s : List ℕ) (b c : Bool) → is_numeral (without_leading_sign s
     → fits_signed (starts_with_minus s) (digits_value 10 (without_leading_sign s)) ≡ c
     → ¬ (IsNumeral 10 (without_leading_sign s) × SFits w64 (signed_digits_value 10 s))
     → None ≡ signed_if s (b && c)
-signed_none s true true is fits no =
-    absurd (no (
+signed_none s true true is fits never =
+    absurd (never (
       numeral_from (without_leading_sign s) is,
       fits_from (starts_with_minus s) (digits_value 10 (without_leading_sign s)) fits,
     ))
-signed_none s true false is fits no = refl
-signed_none s false c is fits no = refl
+signed_none s true false is fits never = refl
+signed_none s false c is fits never = refl
 
 pub signed_is : (o : Option (List ℕ)) (r : Option ℤ)
     → MatchOption o (r ≡ None) (λ s. ParsesSigned w64 10 s (ok_or r s)) → r ≡ option_and_then signed_of_digits o

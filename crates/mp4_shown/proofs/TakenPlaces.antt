@@ -10,6 +10,14 @@ use Rattle.json.specs.Value.{value_view, members_view}
 use Rattle.mp4_shown.specs.Object.{first_of, after_member, has}
 use Rattle.mp4_shown.specs.TakenPlaces.{Member, is_called}
 
+still_some : (k : List ℕ) (j : Json) (o : Option (Json × Members)) → is_some (after_member k j o) ≡ is_some o
+still_some k j None = refl
+still_some k j (Some p) = refl
+
+outside_by : (b : Bool) (i : ℕ) → cond b (Some i) None ≡ None → b ≡ false
+outside_by true i is = absurd cc
+outside_by false i is = refl
+
 module _ {A : Type 0} (name : List ℕ) where
   abbrev IsFirstAt : List (Member A) → Member A → ℕ → Type 0
   IsFirstAt ms d i =
@@ -58,10 +66,6 @@ module _ {A : Type 0} (name : List ℕ) where
       subst (IsFirstAt ms d) here
       (first_inside ms d (ltb-true (position_or_len (is_called name) ms) (length ms) inside))
 
-  still_some : (k : List ℕ) (j : Json) (o : Option (Json × Members)) → is_some (after_member k j o) ≡ is_some o
-  still_some k j None = refl
-  still_some k j (Some p) = refl
-
   has_by : (b : Bool) (m : Member A) (ms : List (Member A))
       → (position_or_len (is_called name) ms < length ms → has name (members_view ms) ≡ true)
       → cond (not b) (1 + position_or_len (is_called name) ms) 0 < suc (length ms)
@@ -83,10 +87,6 @@ module _ {A : Type 0} (name : List ℕ) where
       let (inside, here) =
       cond_some (ltb (position_or_len (is_called name) ms) (length ms)) (position_or_len (is_called name) ms) i is in
       has_inside ms (ltb-true (position_or_len (is_called name) ms) (length ms) inside)
-
-  outside_by : (b : Bool) (i : ℕ) → cond b (Some i) None ≡ None → b ≡ false
-  outside_by true i is = absurd cc
-  outside_by false i is = refl
 
   pub nowhere : (ms : List (Member A)) → position (is_called name) ms ≡ None → first_of name (members_view ms) ≡ None
   nowhere ms is =

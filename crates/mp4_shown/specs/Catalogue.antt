@@ -13,7 +13,7 @@ use Rattle.mp4_shown.specs.Event.{Event}
 use Rattle.mp4_shown.specs.Members.{AreMembers}
 use Rattle.mp4_shown.specs.declared.view.View.{View}
 use Rattle.mp4_shown.specs.Taking.{Taking, ◌>>=◌}
-use Rattle.mp4_shown.specs.TakenShapes.{Takes, document_taken}
+use Rattle.mp4_shown.specs.TakenShapes.{Takes, document_made}
 use Rattle.json.specs.Json.{Json}
 
 -- the declaration of the boxes with a code, and of their fields
@@ -110,7 +110,7 @@ module _ {T E : Type 0} (c : Catalogue T E) (declared : Declarations c) where
 
   -- the box that a text is, of a type
   abbrev pub type_document : T → Option Json → Taking E
-  type_document t j = document_taken (declared t).is.taken j >>= λ b. Ok ((c.entry_of t).wrap b)
+  type_document t j = document_made (c.entry_of t).wrap (declared t).is.taken j
 
   abbrev pub document_if : Option T → Option Json → Taking (Option E)
   document_if None j = Ok None

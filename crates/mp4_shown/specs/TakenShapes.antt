@@ -77,6 +77,10 @@ abbrev pub document_taken : {A : Type 0} → Takes A → Option Json → Taking 
 document_taken taken (Some j) = members_in [] j >>= λ ms. all_of taken ms
 document_taken taken None = Err ([], reasons.NotJson)
 
+-- what is made of the box that a text is
+abbrev pub document_made : {A B : Type 0} → (A → B) → Takes A → Option Json → Taking B
+document_made make taken j = document_taken taken j >>= λ b. Ok (make b)
+
 -- the box that a text is, as one of several types
 abbrev pub document_as : {A B : Type 0} → (A → B) → Takes A → Option Json → Taking (Option B)
 document_as wrap taken j = document_taken taken j >>= λ b. Ok (Some (wrap b))

@@ -7,10 +7,9 @@ ghost use Rattle.mp4_frame.specs.Reading.{Answers, map_reading, reading};
 ghost use Rattle.mp4_shown.specs.Catalogue.{Catalogue, Declaration, Declarations, declared_as, format_as, inside};
 ghost use Rattle.mp4_shown.specs.Catalogue.{reads_as, shown, type_document};
 ghost use Rattle.mp4_shown.specs.Hands.{Hands};
-ghost use Rattle.mp4_shown.specs.TakenShapes.{document_taken};
-ghost use Rattle.mp4_shown.specs.Taking.{TakesAs, ◌>>=◌};
+ghost use Rattle.mp4_shown.specs.TakenShapes.{document_made};
+ghost use Rattle.mp4_shown.specs.Taking.{TakesAs};
 ghost use Rattle.json.specs.Json.{document};
-ghost use Rattle.std.specs.Prelude.{Ok};
 
 use crate::field_sink::FieldSink;
 use crate::has_fields::HasFields;
@@ -109,7 +108,7 @@ pub fn read_declared<T: DeclaredBox + HasFields + TakeFields, E: Holds<Declared<
 /// Returns the declared box with the fields of a `T` whose JSON is `text`, as an `E`.
 #[inline]
 fn take_as<T: TakeFields, E: Holds<Declared<T>>>(alloc: Global, text: &str) -> taken::Result<E>
-    ensures { TakesAs (λ b. b) result (document_taken T.taken (document text.now) >>= λ b. Ok (E.wrapped b)) }
+    ensures { TakesAs (λ b. b) result (document_made E.wrapped T.taken (document text.now)) }
 {
     let fields: T = read_box(alloc, text)?;
     Ok(E::wrap(Declared::new(fields)))
@@ -126,7 +125,7 @@ pub fn take_held<T: DeclaredBox + HasFields + TakeFields, E: Catalogued + Holds<
 ) -> taken::Result<E>
     requires is { of ≡ kind }
     requires alike { type_document E.catalogue E.declared kind (document text.now)
-        ≡ (document_taken T.TakeFields.taken (document text.now) >>= λ b. Ok (E.wrapped b)) }
+        ≡ document_made E.wrapped T.TakeFields.taken (document text.now) }
     ensures { TakesAs (λ b. b) result (type_document E.catalogue E.declared of (document text.now)) }
 {
     take_as::<T, E>(alloc, text)
