@@ -11,3 +11,4 @@ mod Fixed
 mod Meanings
 mod NumberSteps
 mod TakenPlaces
+mod TakenCounts

@@ -21,8 +21,11 @@ pub fn latin_in(text: &str) -> Option<[u8; 4]>
     let mut value = [0; 4];
     let mut count = 0;
     for c in text.chars() {
+        if count == 4 {
+            return None;
+        }
         let number = u32::from(c);
-        if count == 4 || number >= 256 {
+        if number >= 256 {
             return None;
         }
         value[count] = number as u8;

@@ -3,7 +3,7 @@
 ghost use Rattle.std.specs.Prelude.{◌≡◌, ◌^◌, nat_lt};
 ghost use Rattle.json.specs.Value.{items_view, value_view};
 ghost use Rattle.mp4_shown.specs.Lists.{seen_list};
-ghost use Rattle.mp4_shown.specs.TakenLists.{count_by, count_taken, list_below, list_taken};
+ghost use Rattle.mp4_shown.specs.TakenLists.{count_by, count_taken, length_of, list_below, list_taken};
 ghost use Rattle.mp4_shown.specs.Object.{is_number, left};
 ghost use Rattle.mp4_shown.specs.TakenRuns.{items_in};
 ghost use Rattle.mp4_shown.specs.Taking.{TakesAs};
@@ -69,6 +69,14 @@ fn take_count_of(
     }
 }
 
+/// Returns the number of `items`.
+#[tactic(auto, using(crate::proofs::TakenCounts::items_length))]
+fn number_of(items: &[Value<'_>]) -> usize
+    ensures { result ≡ length_of (items_view items.now) }
+{
+    items.len()
+}
+
 /// Takes the list called `name` out, and its count if that is shown and present. Returns its entries.
 pub fn take_list<'a>(
     alloc: Global,
@@ -81,7 +89,7 @@ pub fn take_list<'a>(
     let (name, list_as, count) = name;
     let value = object.take_one(alloc, name)?;
     let items = array_in(alloc, name, value)?;
-    take_count_of(alloc, list_as, count, items.len(), object)?;
+    take_count_of(alloc, list_as, count, number_of(items.as_slice()), object)?;
     Ok(items)
 }
 
@@ -95,7 +103,7 @@ pub(crate) fn take_list_of<'a, C: Count>(
         (list_below (256 ^ C.WIDTH) (seen_list name.entry) (left object.old)) }
 {
     let items = take_list(alloc, name, object)?;
-    if count_fits::<C>(items.len() as u64) {
+    if count_fits::<C>(number_of(items.as_slice()) as u64) {
         Ok(items)
     } else {
         Err(refuse(alloc, name.0, Reason::TooMany))
@@ -103,6 +111,7 @@ pub(crate) fn take_list_of<'a, C: Count>(
 }
 
 /// Returns whether the count `count` fits a `C`.
+#[tactic(auto, using(crate::proofs::TakenCounts::bits_of_bytes))]
 pub(crate) fn count_fits<C: Count>(count: u64) -> bool
     ensures { result ≡ nat_lt count (256 ^ C.WIDTH) }
 {
