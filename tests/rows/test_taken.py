@@ -254,8 +254,8 @@ def boxes_in(buffer, at):
 
 
 def is_back(line):
-    """Returns whether a line says that a box is back. The boxes inside a `tx3g` are no fields of it, so it is made without
-    them."""
+    """Returns whether a line says that a box is back. The boxes inside a `tx3g` are no fields of it, so it is made
+    without them."""
     return line == "same" or line.startswith("Ok(Some(Tx3gBox(") and "boxes: []" in line
 
 

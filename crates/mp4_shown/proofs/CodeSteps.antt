@@ -62,13 +62,13 @@ pub one_more : (cs rest value : List ℕ) (n c : ℕ) → n < 4 → c < 256 → 
     → AreBytes cs rest (set value n c) (n + 1)
 one_more cs rest value n c room small are =
     let added = take_more_set value n c (omega (arith, are.four, room)) in record {
-  four = length-set value n c ∙ are.four;
-  few = omega (arith, room);
-  whole = are.whole ∙ sym (ap (λ (l : List ℕ). l ++ rest) added ∙ append_assoc (take n value) (c ∷ []) rest);
-  all = ap (list_all is_byte) added ∙ list_all-append is_byte (take n value) (c ∷ [])
-      ∙ ap (λ (b : Bool). b && (is_byte c && true)) are.all
-      ∙ ap (λ (b : Bool). b && true) (lt-ltb c 256 small);
-}
+      four = length-set value n c ∙ are.four;
+      few = omega (arith, room);
+      whole = are.whole ∙ sym (ap (λ (l : List ℕ). l ++ rest) added ∙ append_assoc (take n value) (c ∷ []) rest);
+      all = ap (list_all is_byte) added ∙ list_all-append is_byte (take n value) (c ∷ [])
+          ∙ ap (λ (b : Bool). b && (is_byte c && true)) are.all
+          ∙ ap (λ (b : Bool). b && true) (lt-ltb c 256 small);
+    }
 
 -- all characters are taken
 pub some_if_four : (cs value : List ℕ) (n : ℕ) → n ≡ 4 → AreBytes cs [] value n → four_bytes cs ≡ Some value
@@ -82,7 +82,7 @@ some_if_four cs value n full are =
 
 pub none_if_few : (cs value : List ℕ) (n : ℕ) → n ≢ 4 → AreBytes cs [] value n → four_bytes cs ≡ None
 none_if_few cs value n few are =
-    let count : length cs ≡ n + length [] = all_taken cs [] value n are in
+    let count : length cs ≡ n + length {A = ℕ} [] = all_taken cs [] value n are in
     other_count cs (λ (e : length cs ≡ 4). few (omega (arith, e, count)))
 
 pub no_chars : (text : List ℕ) → length text ≡ 0 → chars text ≡ []

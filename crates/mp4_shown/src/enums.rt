@@ -114,7 +114,7 @@ fn take_as<T: TakeFields, E: Holds<Declared<T>>>(alloc: Global, text: &str) -> t
     Ok(E::wrap(Declared::new(fields)))
 }
 
-/// Returns the box of the type `of` whose JSON is `text`. The type is `kind`, which has the fields of a `T`. An arm that
+/// Returns the box of the type `of` whose JSON is `text`. The type is `kind`, whose fields are a `T`. An arm that
 /// calls it needs no answer.
 #[inline]
 pub fn take_held<T: DeclaredBox + HasFields + TakeFields, E: Catalogued + Holds<Declared<T>>>(

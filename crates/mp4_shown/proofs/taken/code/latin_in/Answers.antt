@@ -46,6 +46,7 @@ returns-then-count-eq4-2 c =
 pub returns-else-count-eq4-2 : goal.returns-else-count-eq4-2
 returns-else-count-eq4-2 c =
     let none = no_chars _ c.in-None.ensures.steps.0.0 in
-    sym (none_if_few _ c.loop-c.value c.loop-c.count (λ (e : c.loop-c.count ≡ 4). omega (arith, e, c.if-count-eq4-2.false))
+    sym (none_if_few _ c.loop-c.value c.loop-c.count
+    (λ (e : c.loop-c.count ≡ 4). omega (arith, e, c.if-count-eq4-2.false))
     (subst (λ (cs : List ℕ). AreBytes (chars c.args.text.now) cs c.loop-c.value c.loop-c.count) none
     c.loop-c.invariant.bytes))
