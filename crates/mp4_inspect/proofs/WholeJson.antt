@@ -12,10 +12,10 @@ use Rattle.mp4_frame.specs.Reading.{Reading}
 use Rattle.mp4_frame.specs.declared.box_type.BoxType.{BoxType}
 use Rattle.mp4_frame.specs.declared.four_cc.FourCC.{FourCC}
 use Rattle.mp4_inspect.specs.Json.{number_member, type_token, head_tokens, fields_tokens, IsRest, end_tokens}
-use Rattle.mp4_inspect.specs.Json.{is_quicktime, levels_end, open_inside}
+use Rattle.mp4_inspect.specs.Json.{levels_end, open_inside}
 use Rattle.mp4_inspect.specs.Json.{open_after, box_tokens, AreBoxes, file_tokens, Json}
 use Rattle.mp4_content.proofs.Fields.{front_whole}
-use Rattle.mp4_content.specs.Fields.{front_fields, json_view}
+use Rattle.mp4_content.specs.Fields.{front_fields, is_quicktime, json_view}
 use Rattle.mp4_content.specs.declared.content.Content.{Content}
 use Rattle.mp4_content.specs.declared.content.Content.TheVariants as contents
 use Rattle.mp4_shown_json.proofs.Whole.{Written, value_put, level_put, closed_whole, members_are_whole, none_whole}
