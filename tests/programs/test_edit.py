@@ -10,6 +10,7 @@ one with readers/samples.py.
 - Wrong values of options, and files that can't be read or have no boxes.
 - OUT can be a pipe.
 - Random edits of random files.
+- Real files of ffmpeg and libheif with pictures, fragments, indexes and encrypted samples.
 
 Settings: COUNT (200 random files), SEED."""
 
@@ -20,11 +21,18 @@ import subprocess
 import tempfile
 import unittest
 
-from tests.built import built, number
+from tests.built import NamesSkipped, built, number
 from tests.files.made import be, box, ftyp, full, handler, movie, tkhd, track
-from tests.programs.test_faststart import Runs, Track, fail, made, offsets_in, samples_of, tables
+from tests.programs.test_faststart import STAYS, Runs, Track, cut, fail, iloc, made, offsets_in, samples_of, sidx
+from tests.programs.test_faststart import tables, tfra
+from tests.programs.test_fragment import hashes
 from tests.readers.samples import boxes
+from tests.real_files import making
 
+# Files of ffmpeg and libheif with fields outside the moov that lead to bytes of the file.
+PICTURES = ("still.heic", "thumbnail.heic", "alpha.heic", "libheif.avif")
+FRAGMENTED = ("frag_keyframe.mp4", "frag_default_base.mp4", "frag_omit_offset.mp4", "frag_dash.mp4",
+              "frag_global_sidx.mp4", "frag_ismv.ismv", "cenc_h264.mp4", "cenc_frag.mp4", "dash_sidx.mpd")
 # The boxes that hold boxes, with the number of bytes before the first one.
 FRONTS = {b"moov": 0, b"trak": 0, b"mdia": 0, b"minf": 0, b"stbl": 0, b"udta": 0, b"edts": 0, b"dinf": 0, b"mvex": 0,
           b"moof": 0, b"traf": 0, b"meta": 4, b"ilst": 0, b"dref": 8, b"mfra": 0}
@@ -477,6 +485,74 @@ def fragmented():
     return front + moov(start, start + 4) + box(b"mdat", b"onetwo!!") + moof(1) + moof(2)
 
 
+def fields_outside(runs, random_):
+    """Edits files with boxes outside the moov that lead to bytes of the file. The expected numbers are those of
+    ISO/IEC 14496-12: a field leads to the same byte as before."""
+    new = box(b"free", b"new")
+    runs.write("new.box", new)
+    plain = in_front(made(random_, [Track(1, [[10, 20], [30]])]))
+    media, ends, by = plain.index(b"mdat") - 4, len(plain), len(new)
+    model = Model(plain)
+    model.insert("moov", new)
+    moved = model.done()
+
+    def behind(what, where, then):
+        runs.edits(what, plain + where, moved + then, "--insert", "moov=new.box")
+    for version, sizes, base in ((0, (4, 4, 0, 0), 0), (1, (8, 8, 4, 4), 3), (1, (0, 4, 8, 0), media + 9),
+                                 (2, (4, 4, 8, 0), media)):
+        items = [(0, base, [(1, media + 9 - base, 4), (2, media + 20 - base, 5)])]
+        items += [(1, 0, [(0, 1, 2)]), (2, base, [(1, 2, 3)])] if version else []
+        behind(f"iloc of version {version} with sizes {sizes}", full(b"meta", 0, 0, iloc(version, sizes, items)),
+               full(b"meta", 0, 0, iloc(version, sizes, items, by)))
+    for version in (0, 1):
+        behind(f"tfra of version {version}", box(b"mfra", tfra(version, (1, 2, 4), [(9, ends), (11, media)])),
+               box(b"mfra", tfra(version, (1, 2, 4), [(9, ends), (11, media)], by)))
+        # The index and what it leads to move alike.
+        index = sidx(version, 4, [(0, 20), (1, 31)])
+        behind(f"sidx of version {version}", index + bytes(3) + b"\x3bfree" + bytes(51), index + bytes(3) + b"\x3bfree"
+               + bytes(51))
+        # A part grows by what is inserted into it, and so does the distance to the first one.
+        parts = [box(b"free", bytes(12)), box(b"skip", bytes(22)), box(b"free", bytes(32))]
+        where = sidx(version, 0, [(0, 20), (1, 30), (0, 40)])
+        count = len(Model(plain).items)
+        for which, first, sizes in ((1, by, (20, 30, 40)), (2, 0, (20 + by, 30, 40)), (3, 0, (20, 30 + by, 40))):
+            then = sidx(version, first, list(zip((0, 1, 0), sizes)))
+            before, rest = b"".join(parts[:which - 1]), b"".join(parts[which - 1:])
+            runs.edits(f"sidx of version {version}, before part {which}", plain + where + before + rest,
+                       plain + then + before + new + rest, "--insert", f"/:{count + which}=new.box")
+    # Fragments, whose auxiliary information is behind the moof. Their base is a position, the moof, or implied.
+    defaults = box(b"mvex", full(b"trex", 0, 0, be(4, 1, 1, 10, 4, 0)))
+    model = Model(plain)
+    model.insert("moov", defaults)
+    data = model.done()
+    model = Model(data)
+    model.insert("moov", new)
+    for flags in (0, 1, 0x20000):
+        def moof(begin, flags=flags):
+            base = be(8, begin) if flags & 1 else b""
+            parts = [full(b"tfhd", 0, flags, be(4, 1) + base), full(b"trun", 0, 1, be(4, 1, 200)),
+                     full(b"saio", 1, 1, b"cenc" + be(4, 0, 1) + be(8, 190))]
+            head = box(b"moof", full(b"mfhd", 0, 0, be(4, 1)) + box(b"traf", b"".join(parts)))
+            return head + box(b"mdat", bytes(192 - len(head)) + b"data" + bytes(9))
+        runs.edits(f"saio with the flags {flags} of a tfhd", data + moof(len(data)),
+                   model.done() + moof(len(data) + by), "--insert", "moov=new.box")
+    # A picture without a moov.
+    front, picture = ftyp(b"avif", b"avif"), box(b"mdat", b"picture")
+
+    def photo(moved_):
+        kind = handler(b"pict", b"")
+        begin = len(front) + len(full(b"meta", 0, 0, kind + iloc(0, (4, 4, 0, 0), [(0, 0, [(0, 0, 0)])]))) + 8
+        return full(b"meta", 0, 0, kind + iloc(0, (4, 4, 0, 0), [(0, 0, [(0, begin, 7)])], moved_)) + picture
+    runs.write("in.mp4", front + photo(0))
+    runs.run(0, "out.mp4: 1 edit is made\n", "", "in.mp4", "out.mp4", "--insert", "/:1=new.box")
+    if runs.read("out.mp4") != front + new + photo(by):
+        fail("a picture: the items are elsewhere")
+    # An item of which the first byte is removed.
+    where = full(b"meta", 0, 0, iloc(0, (4, 4, 0, 0), [(0, 0, [(0, ends, 7)])])) + box(b"free", b"x")
+    where = full(b"meta", 0, 0, iloc(0, (4, 4, 0, 0), [(0, 0, [(0, ends + len(where) - 1, 7)])])) + box(b"free", b"x")
+    runs.refuses(plain + where, f"meta/iloc at {ends + 12}: {STAYS}", "--remove", "free")
+
+
 def dropped(runs, random_):
     """Drops tracks with tables and with fragments. The rest of the file stays, and the other tracks keep their
     samples."""
@@ -561,13 +637,14 @@ def refused(runs, random_):
     runs.refuses(plain + movie(), f"there is another moov at {len(plain)}", "--enable", "1")
     runs.refuses(plain.replace(full(b"url ", 0, 1), full(b"url ", 0, 0)),
                  f"url  at {plain.index(b'url ') - 4}: the media data are in another file", "--enable", "1")
-    # Offsets that are not shifted, and boxes before what is moved. If nothing moves, they are no obstacle.
-    for name, content in ((b"iloc", full(b"meta", 0, 0, box(b"iloc", bytes(12)))),
-                          (b"tfra", box(b"mfra", box(b"tfra", bytes(16)))),
-                          (b"sidx", box(b"sidx", bytes(24))), (b"moof", box(b"moof"))):
+    # Fields that can't be shifted, and fragments before what is moved. If nothing moves, they are no obstacle.
+    for name, path, content in (
+            (b"iloc", "meta/iloc", full(b"meta", 0, 0, cut(iloc(1, (4, 4, 0, 0), [(0, 0, [(0, 9, 9)])]), 5))),
+            (b"tfra", "mfra/tfra", box(b"mfra", cut(tfra(1, (1, 1, 1), [(1, 2)]), 9))),
+            (b"sidx", "sidx", cut(sidx(1, 0, [(0, 9)]), 10)), (b"moof", "moof", box(b"moof"))):
         data = made(random_, [one], front=ftyp(b"isom") + content, behind=box(b"free"))
         place = data.index(name) - 4
-        runs.refuses(data, f"{name.decode()} at {place}: its offsets can't be shifted", "--insert", "moov=new.box")
+        runs.refuses(data, f"{path} at {place}: {STAYS}", "--insert", "moov=new.box")
         model_ = Model(data)
         model_.write("moov/trak/tkhd", 3, b"\6")
         runs.edits(f"{name} where nothing moves", data, model_.done(), "--disable", "1")
@@ -761,6 +838,9 @@ class Edit(unittest.TestCase):
     def test_tags(self):
         tags(self.runs, self.random)
 
+    def test_fields_outside_the_movie(self):
+        fields_outside(self.runs, self.random)
+
     def test_dropped_tracks(self):
         dropped(self.runs, self.random)
 
@@ -777,6 +857,49 @@ class Edit(unittest.TestCase):
         edited(self.runs, self.random, number("COUNT", 200))
         self.assertGreater(self.runs.samples, 0)
 
+
+class RealFiles(NamesSkipped, unittest.TestCase):
+    """Files that ffmpeg and libheif make. A box is inserted near the front, and removed again."""
+
+    def setUp(self):
+        self.needs("ffmpeg")
+        self.folder = tempfile.mkdtemp(prefix="real-edits-")
+        self.addCleanup(shutil.rmtree, self.folder)
+        self.runs = Edits(built("mp4_remux_program"), self.folder)
+        self.runs.write("new.box", box(b"free", b"new"))
+
+    def there_and_back(self, path):
+        """Inserts a box behind the first box of the file `path`, and removes it. Returns the path of the file with the
+        box."""
+        with open(path, "rb") as file:
+            data = file.read()
+        self.runs.write("in.mp4", data)
+        self.runs.run(0, "out.mp4: 1 edit is made\n", "", "in.mp4", "out.mp4", "--insert", "/:1=new.box")
+        self.runs.run(0, "back.mp4: 1 edit is made\n", "", "out.mp4", "back.mp4", "--remove", "free")
+        self.assertEqual(self.runs.read("back.mp4"), data)
+        return os.path.join(self.folder, "out.mp4")
+
+    def test_pictures(self):
+        """Each picture looks the same."""
+        self.needs("heif-enc", "libheif-examples")
+        for name, reason in making.make_all(self.folder, PICTURES).items():
+            with self.subTest(name):
+                self.assertIsNone(reason)
+                path = os.path.join(self.folder, name)
+                shown = []
+                for each in (path, self.there_and_back(path)):
+                    words = ["heif-convert", each, "shown.png"]
+                    subprocess.run(words, cwd=self.folder, capture_output=True, check=True)
+                    shown.append(self.runs.read("shown.png"))
+                self.assertEqual(*shown)
+
+    def test_fragments(self):
+        """ffmpeg reads the same packets."""
+        for name, reason in making.make_all(self.folder, FRAGMENTED).items():
+            self.assertIsNone(reason)
+            for path in making.paths(self.folder, name):
+                with self.subTest(os.path.basename(path)):
+                    self.assertEqual(hashes(self.there_and_back(path), "-c", "copy"), hashes(path, "-c", "copy"))
 
 if __name__ == "__main__":
     unittest.main()

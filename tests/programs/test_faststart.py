@@ -2,8 +2,9 @@
 which has no code of the codec.
 
 - Every sample has the same bytes, times and description as before, and the moov is before the first mdat. The other
-  boxes of the top level are the same bytes, in the same order. In the moov only the chunk offsets and those of
-  auxiliary information are changed. A stco with an offset that would not fit becomes a co64.
+  boxes of the top level are the same bytes, in the same order, except for fields that lead to bytes of the file. In
+  the moov only the chunk offsets and those of auxiliary information are changed. A stco with an offset that would not
+  fit becomes a co64.
 - A file whose moov is before the first mdat already is copied. So is each written file, and a file without mdat.
 - OUT can be a pipe. On a terminal the progress is shown.
 - Each refusal is expected with its text. Then nothing is written, and existing files are unchanged.
@@ -37,6 +38,7 @@ COPIED = "a copy, as no media data are before the moov"
 HOLDS = (b"moov", b"trak", b"mdia", b"minf", b"stbl")
 MEMORY = 64 << 20
 # The text of a table whose count is too large.
+STAYS = "its offsets can't be shifted"
 MANY = "stts entry_count indicates more entries than could fit in the box"
 # The number of tracks of a file, and the most seconds that it takes.
 TRACKS, SECONDS = 3200, 10
@@ -148,8 +150,52 @@ def samples_of(data):
     return found
 
 
-def compare(name, before, after):
-    """Checks that `after` is `before` with its moov moved. Returns the number of samples."""
+def iloc(version, sizes, items, moved=0):
+    """Returns an iloc (ISO/IEC 14496-12, 8.11.3) with offsets `moved` bytes later, in the form of a picture of version
+    0, 1 or 2. `sizes` are those of the offsets, lengths, base offsets and indexes. An item is its kind of place, its
+    base offset, and its extents: an index, an offset and a length."""
+    offset_size, length_size, base_size, index_size = sizes
+    out = bytes([offset_size << 4 | length_size, base_size << 4 | index_size])
+    out += be(4 if version == 2 else 2, len(items))
+    for number_, (method, base, extents) in enumerate(items, 1):
+        by = moved if method == 0 else 0
+        out += be(4 if version == 2 else 2, number_) + (be(2, method) if version else b"") + be(2, 0)
+        # Without offsets, the base offset is that of the extents. Else it stays, and the offsets count from it.
+        out += be(base_size, base + (0 if offset_size else by)) + be(2, len(extents))
+        for index, offset, length in extents:
+            out += (be(index_size, index) if version else b"") + be(offset_size, offset + by) + be(length_size, length)
+    return full(b"iloc", version, 0, out)
+
+
+def tfra(version, lengths, entries, moved=0):
+    """Returns a tfra (8.8.10) with offsets `moved` bytes later. `lengths` are the sizes of the numbers of an entry, and
+    an entry is a time and the position of a moof."""
+    traf, trun, sample = lengths
+    out = be(4, 1, (traf - 1) << 4 | (trun - 1) << 2 | sample - 1, len(entries))
+    width = 8 if version else 4
+    for time_, offset in entries:
+        out += be(width, time_, offset + moved) + be(traf, 1) + be(trun, 2) + be(sample, 3)
+    return full(b"tfra", version, 0, out)
+
+
+def sidx(version, first, parts):
+    """Returns a sidx (8.16.3) whose parts begin `first` bytes after it. A part is its kind and its size."""
+    width = 8 if version else 4
+    out = be(4, 1, 1000) + be(width, 7, first) + be(2, 0, len(parts))
+    for kind, size in parts:
+        out += be(4, kind << 31 | size, 500, 0x90000001)
+    return full(b"sidx", version, 0, out)
+
+
+def cut(data, count):
+    """Returns the box without its last `count` bytes, with the size that it has then."""
+    return be(4, len(data) - count) + data[4:len(data) - count]
+
+
+def compare(name, before, after, behind=b"", then=b""):
+    """Checks that `after` is `before` with its moov moved, and with `then` in place of `behind`. Returns the number of
+    samples."""
+    samples, before = samples_of(before), before.replace(behind, then) if behind else before
     were, are = boxes(before, 0, len(before), True), boxes(after, 0, len(after), True)
     others = [[data[it[1]:it[4]] + it[2] for it in found if it[0] != b"moov"] for data, found in
               ((before, were), (after, are))]
@@ -161,7 +207,7 @@ def compare(name, before, after):
     codes = [it[0] for it in are]
     if codes.index(b"moov") + 1 != codes.index(b"mdat") or len(before) != len(after):
         fail(f"{name}: the moov is not before the first mdat: {codes}")
-    if samples_of(before) != samples_of(after):
+    if samples != samples_of(after):
         fail(f"{name}: a sample is changed")
     return sum(len(rows) for _, rows in samples_of(after))
 
@@ -191,15 +237,15 @@ class Runs:
         if (done.returncode, done.stdout, done.stderr) != (status, out, error):
             fail(f"{names}: {done.returncode}, {done.stdout!r}, {done.stderr!r}\nand not\n{status}, {out!r}, {error!r}")
 
-    def moves(self, name, data):
+    def moves(self, name, data, behind=b"", then=b""):
         """Moves the moov of the file `data`, compares the files, and runs the program over the written file once
-        more."""
+        more. The bytes `behind` of the file become `then`."""
         tops = boxes(data, 0, len(data), True)
         movie_at = next(it[1] for it in tops if it[0] == b"moov")
         media_at = next(it[1] for it in tops if it[0] == b"mdat")
         self.write("in.mp4", data)
         self.run(0, f"out.mp4: moov is moved from {movie_at} to {media_at}\n", "", "in.mp4", "out.mp4")
-        self.samples += compare(name, data, self.read("out.mp4"))
+        self.samples += compare(name, data, self.read("out.mp4"), behind, then)
         self.copies("out.mp4")
         if self.read("in.mp4") != data:
             fail(f"{name}: the file that is read is changed")
@@ -291,29 +337,12 @@ def refused(runs, random_):
     runs.refuses(b"", "there is no moov")
     runs.refuses(plain + b"\0\0\0\x09free", f"there is no whole box at {len(plain)}")
     runs.refuses(plain[:-1], f"there is no whole box at {movie_at}")
-    for name, content, where in ((b"saio", bytes(4) + be(4, 2, 100), "inside"), (b"saio", bytes(3), "inside"),
-                                 (b"iloc", bytes(12), "meta"), (b"saio", bytes(4) + be(4, 1, 100), "traf"),
-                                 (b"tfra", bytes(16), "mfra"), (b"cmov", b"", "inside")):
+    for name, content in ((b"saio", bytes(4) + be(4, 2, 100)), (b"saio", bytes(3)), (b"cmov", b"")):
         other = box(name, content)
-        if where == "inside":
-            data = made(random_, [one], inside=other)
-            at = len(data) - len(other)
-        elif where == "meta":
-            data = made(random_, [one], behind=full(b"meta", 0, 0, other))
-            at = len(data) - len(other)
-        elif where == "traf":
-            data = made(random_, [one], behind=box(b"moof", box(b"traf", other)))
-            at = len(data) - len(other)
-        else:
-            data = made(random_, [one], behind=box(b"mfra", other))
-            at = len(data) - len(other)
-        runs.refuses(data, f"{name.decode()} at {at}: its offsets can't be shifted")
-    header = full(b"tfhd", 0, 1, be(4, 1) + be(8, 100))
-    data = made(random_, [one], behind=box(b"moof", box(b"traf", header)))
-    runs.refuses(data, f"tfhd at {len(data) - len(header)}: its offsets can't be shifted")
-    for name in (b"moof", b"sidx"):
-        data = made(random_, [one], front=ftyp(b"isom") + box(name, bytes(24) if name == b"sidx" else b""))
-        runs.refuses(data, f"{name.decode()} at {len(ftyp(b'isom'))}: its offsets can't be shifted")
+        data = made(random_, [one], inside=other)
+        runs.refuses(data, f"{name.decode()} at {len(data) - len(other)}: {STAYS}")
+    data = made(random_, [one], front=ftyp(b"isom") + box(b"moof"))
+    runs.refuses(data, f"moof at {len(ftyp(b'isom'))}: {STAYS}")
     away = plain.index(full(b"url ", 0, 1))
     data = plain[:away + 8] + bytes(4) + plain[away + 12:]
     runs.refuses(data, f"url  at {away}: the media data are in another file")
@@ -383,6 +412,124 @@ def behind_the_movie(runs, random_):
     runs.moves("an index behind the moov", made(random_, [one], behind=index))
     defaults = box(b"mvex", full(b"trex", 0, 0, be(4, 1, 1, 0, 0, 0)))
     runs.moves("a fragment behind the moov", made(random_, [one], behind=fragment, inside=defaults))
+
+
+class Whole:
+    """A file whose moov is behind its mdat, without other boxes that lead to bytes of the file. The moov stays as long
+    as it is. So the bytes from the mdat up to it are later by its length, `size`, and all others keep their positions.
+    The mdat begins at `media`, the moov at `movie`, and the file ends at `end`."""
+
+    def __init__(self, random_):
+        self.seed, self.front = random_.random(), ftyp(b"isom", b"isom")
+        self.data = self.made()
+        self.media, self.end, self.movie = len(self.front), len(self.data), self.data.index(b"moov") - 4
+        self.size = self.end - self.movie
+
+    def made(self, front=b"", inside=b""):
+        """Returns the file with `front` before its mdat and `inside` in its moov. The mdat is always the same."""
+        chunks = [Track(1, [[10, 20], [30]])]
+        return made(random.Random(self.seed), chunks, front=self.front + front, inside=inside)
+
+
+def items_moved(runs, random_):
+    """Checks files with an iloc outside the moov and in it. Its items are where their bytes are after the move."""
+    file = Whole(random_)
+    for version, sizes, base in ((0, (4, 4, 0, 0), 0), (0, (8, 4, 0, 0), 0), (1, (4, 4, 4, 0), 0),
+                                 (1, (4, 8, 8, 4), 5), (1, (0, 4, 4, 0), file.media + 8),
+                                 (1, (0, 4, 8, 8), file.media + 8), (2, (4, 4, 0, 0), 0), (2, (8, 8, 8, 4), file.media),
+                                 (2, (8, 0, 4, 0), 3)):
+        extents = [(1, file.media + 8 - base, 4), (2, file.media + 20 - base, 5)]
+        items = [(0, base, extents), (0, base, []), (0, base, extents[:1])]
+        if version:
+            items += [(1, base, [(0, 9, 9)]), (2, 0, [(1, 2, 3)])]
+        where, then = (full(b"meta", 0, 0, iloc(version, sizes, items, by)) for by in (0, file.size))
+        runs.moves(f"iloc of version {version} with sizes {sizes}", file.data + where, where, then)
+    for offset in (3, file.end + 20):
+        where = full(b"meta", 0, 0, iloc(1, (4, 4, 0, 0), [(0, 0, [(0, offset, 9)])]))
+        runs.moves("an item that stays", file.data + where)
+    # The same before the mdat, which is found by its length.
+    hole = full(b"meta", 0, 0, iloc(0, (4, 4, 0, 0), [(0, 0, [(0, 0, 9)])]))
+    at = file.media + len(hole) + 8
+    where, then = (full(b"meta", 0, 0, iloc(0, (4, 4, 0, 0), [(0, 0, [(0, it, 9)])])) for it in (at, at + file.size))
+    runs.moves("iloc in front", file.made(where), where, then)
+    # Items of the moov, one in the mdat and one in the moov itself, as far from the beginning of the mvhd as before.
+    for version, sizes in ((0, (4, 4, 0, 0)), (1, (8, 4, 4, 8)), (2, (0, 4, 8, 0))):
+        places = [(0, file.media + 9, [(0, 0, 2)]), (0, file.movie + 20, [(0, 0, 2)])] if sizes[0] == 0 else [
+            (0, 0, [(1, file.media + 9, 3), (2, file.movie + 20, 3)])]
+        inside = full(b"meta", 0, 0, iloc(version, sizes, places))
+
+        def later(offset, by=file.size + len(inside)):
+            return offset and (offset + by if offset < file.movie else offset - file.movie + file.media)
+        now = [(method, later(base), [(index, later(offset), length) for index, offset, length in extents])
+               for method, base, extents in places]
+        runs.moves(f"iloc of version {version} in the moov", file.made(inside=inside), inside,
+                   full(b"meta", 0, 0, iloc(version, sizes, now)))
+
+
+def positions_of_fragments_moved(runs, random_):
+    """Checks files with a tfra. The first of its fragments is before the moov, and the second one isn't."""
+    file = Whole(random_)
+    for version in (0, 1):
+        for lengths in ((1, 1, 1), (2, 3, 4), (4, 1, 2)):
+            entries = [(10, file.media + 3), (20, file.media + 9)]
+            where, then = (box(b"mfra", tfra(version, lengths, entries, by) + full(b"mfro", 0, 0, be(4, 99)))
+                           for by in (0, file.size))
+            runs.moves(f"tfra of version {version}", file.data + where, where, then)
+        where = box(b"mfra", tfra(version, (1, 1, 1), [(10, file.end + 50)]))
+        runs.moves("a fragment that stays", file.data + where)
+
+
+def bases_moved(runs, random_):
+    """Checks files with fragments behind the moov. Their base is in the mdat, or it is the moof. The offsets of their
+    auxiliary information count from it, and stay."""
+    file = Whole(random_)
+    defaults = box(b"mvex", full(b"trex", 0, 0, be(4, 1, 1, 0, 0, 0)))
+    with_defaults = file.made(inside=defaults)
+    for flags, base in ((0, None), (0x20000, None), (1, file.media + 8), (0x20001, file.media + 8)):
+        header, later = (full(b"tfhd", 0, flags, be(4, 1) + (b"" if base is None else be(8, base + by)))
+                         for by in (0, file.size + len(defaults)))
+        for version in (0, 1):
+            kind = full(b"saio", version, 1, b"cenc" + be(4, 0, 1) + be(8 if version else 4, 30))
+            where, then = (box(b"moof", full(b"mfhd", 0, 0, be(4, 1)) + box(b"traf", it + kind))
+                           for it in (header, later))
+            runs.moves(f"tfhd with the flags {flags}", with_defaults + where, where, then)
+
+
+def indexes_moved(runs, random_):
+    """Checks files with a sidx before the mdat, which is its first part."""
+    file = Whole(random_)
+    media = file.movie - file.media
+    for version in (0, 1):
+        for parts in ([(0, media)], [(0, 20), (1, media - 20)]):
+            where, then = (sidx(version, it, parts) for it in (0, file.size))
+            runs.moves(f"sidx of version {version} with the parts {parts}", file.made(where), where, then)
+        runs.moves(f"empty sidx of version {version}", file.data + sidx(version, 0, []))
+
+
+def fields_that_stay(runs, random_):
+    """Checks that fields which can't be shifted are named by the path and the position of their box."""
+    file = Whole(random_)
+    for content in (iloc(1, (4, 4, 0, 0), [(0, 0, [(0, file.movie + 9, 9)])]),
+                    iloc(1, (4, 4, 0, 0), [(3, 0, [(0, 9, 9)])]),
+                    iloc(1, (4, 4, 0, 0), [(0, 0, [(0, 9, 9)])])[:-6],
+                    iloc(0, (4, 4, 3, 0), [(0, 0, [(0, 9, 9)])]),
+                    iloc(2, (4, 4, 0, 0), [(0, 0, [(0, 9, 9)])]).replace(b"iloc\2", b"iloc\3"),
+                    iloc(0, (4, 4, 0, 0), [(0, 0, [(0, 9, 9)])])[:-14] + be(2, 1, 1, 1) + be(4, 9, 9)):
+        where = full(b"meta", 0, 0, cut(content, 0))
+        runs.refuses(file.data + where, f"meta/iloc at {file.end + 12}: {STAYS}")
+    for data, path, at in ((box(b"mfra", tfra(0, (1, 1, 1), [(1, file.movie)])), "mfra/tfra", 8),
+                           (box(b"mfra", cut(tfra(0, (1, 1, 1), [(1, 2), (3, 4)]), 8)), "mfra/tfra", 8),
+                           (box(b"moof", box(b"traf", full(b"saio", 0, 0, be(4, 1, 9)))), "moof/traf/saio", 16),
+                           (box(b"moof", box(b"traf", full(b"tfhd", 0, 1, be(4, 1)))), "moof/traf/tfhd", 16),
+                           (box(b"moof", full(b"meta", 0, 0, iloc(0, (4, 4, 0, 0), []))), "moof/meta/iloc", 20),
+                           (cut(sidx(0, 10, [(0, 20)]), 10), "sidx", 0)):
+        runs.refuses(file.data + data, f"{path} at {file.end + at}: {STAYS}")
+    two = b"".join(box(b"traf", full(b"tfhd", 0, 0, be(4, 1)) + full(b"saio", 0, 0, be(4, 1, 9))) for _ in range(2))
+    runs.refuses(file.data + box(b"moof", two),
+                 f"moof/traf[1]/saio at {file.end + 8 + len(two) // 2 + 24}: {STAYS}")
+    # Two parts, of which the second one begins with the moov.
+    index = sidx(0, 0, [(0, file.movie - file.media), (0, file.size)])
+    runs.refuses(file.made(index), f"sidx at {file.media}: {STAYS}")
 
 
 def offsets_in(data, found):
@@ -778,6 +925,21 @@ class FastStart(unittest.TestCase):
 
     def test_boxes_behind_the_movie(self):
         behind_the_movie(self.runs, self.random)
+
+    def test_items(self):
+        items_moved(self.runs, self.random)
+
+    def test_positions_of_fragments(self):
+        positions_of_fragments_moved(self.runs, self.random)
+
+    def test_bases_of_fragments(self):
+        bases_moved(self.runs, self.random)
+
+    def test_indexes(self):
+        indexes_moved(self.runs, self.random)
+
+    def test_fields_that_stay(self):
+        fields_that_stay(self.runs, self.random)
 
     def test_largest_offset(self):
         largest_offset(self.runs)

@@ -41,13 +41,14 @@ from tests.rows import rows
 CHANGES = os.path.join(TOP, "tests", "prover", "wrong-definitions.txt")
 # Three names beside those of the crates: the rows, which the program test_probe reads; the rows with the fields of
 # boxes, which the program mp4inspect shows; and the tests of PROGRAM_TESTS, which run mp4inspect. Those whose names
-# LIBRARY matches call the library for C.
+# REMUX matches run mp4remux instead, and those whose names LIBRARY matches call the library for C.
 ROWS = "rows"
 FIELDS = "fields"
 PROGRAMS = "programs"
 PROGRAM_TESTS = ["programs.test_inspect", "programs.test_check", "programs.test_info", "programs.test_diff",
-                 "programs.test_faststart", "programs.test_fragment", "readers.test_containers",
+                 "programs.test_faststart", "programs.test_edit", "programs.test_fragment", "readers.test_containers",
                  "interfaces.test_one_answer", "interfaces.test_library"]
+REMUX = re.compile(r"programs::test_(faststart|edit|fragment)::")
 LIBRARY = re.compile(r"programs::(test_library::|\w+::\w+_by_(python|rust)$)")
 # The number of inputs of test_differential that are read with the rows, and the number of bytes that are read at once.
 # The text of a longer row may be longer than the output that a run without proof keeps.
@@ -323,7 +324,7 @@ class Copy:
         with tempfile.TemporaryDirectory(dir=self.folder) as folder:
             environment = {**os.environ, "TEST_PROGRAMS": folder, "TEST_LIBRARY": os.path.join(folder, "library")}
             self.build("program", "mp4_inspect", os.path.join(folder, "mp4_inspect"))
-            if any("::test_faststart::" in name for name in named):
+            if any(REMUX.match(name) for name in named):
                 self.build("program", "mp4_remux_program", os.path.join(folder, "mp4_remux_program"))
             if any(map(LIBRARY.match, named)):
                 self.build("library", environment["TEST_LIBRARY"])

@@ -4,7 +4,7 @@ use Rattle.std.proofs.Common.{sym, ap, subst, ◌∙◌, arith, refl}
 use Rattle.std.proofs.lemmas.List.{drop_all, drop_more, take_all, take_more}
 use Rattle.std.proofs.lemmas.List.Elements.{All-push, AllZip-push}
 use Rattle.std.specs.List.{AllZip}
-use Rattle.std.specs.Prelude.{slice_index_or}
+use Rattle.std.specs.Prelude.{Bool, Err, IfOk, IsTrue, Ok, Result, slice_index_or}
 use Rattle.std.specs.declared.option.Option.{Option}
 use Rattle.mp4_frame.specs.Bytes.{number}
 use Rattle.mp4_walk.specs.FileBoxes.{boxes_of}
@@ -13,6 +13,7 @@ use Rattle.mp4_remux_files.specs.Movie.{AreBoxesAfter, IsMovieAfter}
 use Rattle.mp4_remux_files.specs.Offsets.{offset_after, place_by, place_in}
 use Rattle.mp4_remux_files.specs.Places.{IsCutOut, IsPlaced, IsSteady, IsSteadyIf, is_misled}
 use Rattle.mp4_remux_files.specs.declared.movement.Move.{Move}
+use Rattle.mp4_remux_files.specs.declared.refusal.Stop.{Stop}
 
 one_place : (x y : TreeBox) (xs ys : List TreeBox) (o n : ℕ)
     → place_in (x ∷ xs) (y ∷ ys) o n ≡ place_in xs ys o (place_by x y o n)
@@ -78,6 +79,14 @@ movie_after c xs ys us vs sized after is_as is_bs = record {
       (λ (l : List TreeBox). AreBoxesAfter (offset_after c (length ys) (boxes_of xs) l) xs ys (boxes_of xs) l) is_bs
       (subst (λ (l : List TreeBox). AreBoxesAfter (offset_after c (length ys) l vs) xs ys l vs) is_as after);
 }
+
+pub movie_checked : (c : Move) (xs ys : List ℕ) (us vs : List TreeBox) (res : Result Bool Stop)
+    → (number ys 0 4 ≡ 0 → ⊥)
+    → IfOk res (λ is. IsTrue is → AreBoxesAfter (offset_after c (length ys) us vs) xs ys us vs) → us ≡ boxes_of xs
+    → vs ≡ boxes_of ys → IfOk res (λ is. IsTrue is → IsMovieAfter c xs ys)
+movie_checked c xs ys us vs (Ok is) sized after is_as is_bs = λ yes.
+    movie_after c xs ys us vs sized (after yes) is_as is_bs
+movie_checked c xs ys us vs (Err e) sized after is_as is_bs = tt
 
 -- one more box is steady
 pub more_steady : (c : Move) (xs : List TreeBox) (i : ℕ) (d : TreeBox) → i < length xs → IsSteady c (take i xs)

@@ -11,7 +11,7 @@ use Rattle.mp4_remux.specs.declared.edits.edit.Edit.{Edit}
 use Rattle.mp4_remux.specs.declared.edits.shortcut.Shortcut.{Shortcut}
 use Rattle.mp4_remux.specs.declared.edits.splice.Splice.{Splice}
 use Rattle.mp4_remux.specs.declared.pieces.piece.Piece.{Piece}
-use Rattle.mp4_remux_files.specs.EditedFile.{AreEditsFor, AreTopsOf, ChangesFile, EditsFile, KeepsEdited}
+use Rattle.mp4_remux_files.specs.EditedFile.{AreAllOf, AreEditsFor, ChangesFile, EditsFile, KeepsEdited}
 
 -- a plan of the file after splices of the top level
 pub tops_kept : (r again : Option (List ℕ)) (n : ℕ) (all : List Splice) (ps qs : List Piece) → qs ≡ ps
@@ -24,7 +24,7 @@ tops_kept (Some B) again n all ps qs is by keeps = λ same long. (ap (spelled B)
 
 -- the splices stand for those of the top level
 pub edited_kept : (r s again : Option (List ℕ)) (n : ℕ) (ss all : List Splice) (qs : List Piece) → s ≡ r
-    → IfSome r (λ B. n ≡ length B) → IfSome r (λ B. AreTopsOf B ss all)
+    → IfSome r (λ B. n ≡ length B) → IfSome r (λ B. AreAllOf B ss all)
     → IfSome s (λ B. again ≡ Some B → n ≡ length B
     → (spelled B qs ≡ spliced B all) × KeepsMedia B (spelled B qs))
     → IfSome r (λ B. again ≡ Some B → KeepsEdited B ss (spelled B qs))

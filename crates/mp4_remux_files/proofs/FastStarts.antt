@@ -29,7 +29,7 @@ moved_kept (Some B) s again n c ps qs sr is plans keeps = λ same long move.
     let keeps' : again ≡ Some B → KeepsMedia B (spelled B qs) =
     subst (λ (o : Option (List ℕ)). IfSome o (λ B. again ≡ Some B → KeepsMedia B (spelled B qs))) sr keeps in
     let moves : MovesMovie B c (spelled B qs) =
-    record { move = move; movie = plan.0; is_movie = plan.1; file = ap (spelled B) is ∙ plan.2 } in
+    record { move = move; all = plan.0; are_move = plan.1; file = ap (spelled B) is ∙ plan.2 } in
     (moves, keeps' same)
 
 start_same : (r again : Option (List ℕ)) (n : ℕ) (qs : List Piece)

@@ -1,13 +1,15 @@
 -- The bytes of a file after the move.
-use Rattle.std.proofs.Common.{◌≡◌, ℕ, zero, suc, ◌+◌, ◌-◌, ◌<◌, ◌≤◌, inl, inr, List, ◌++◌, take, drop, length}
-use Rattle.std.proofs.Common.{refl, sym, ap, subst, append_assoc, ◌∙◌, arith}
+use Rattle.std.proofs.Common.{◌≡◌, ℕ, zero, suc, ◌+◌, ◌-◌, ◌<◌, ◌≤◌, inl, inr, List, [], ◌∷◌, ◌++◌, take, drop}
+use Rattle.std.proofs.Common.{length, refl, sym, ap, subst, append_assoc, ◌∙◌, arith}
 use Rattle.std.proofs.lemmas.Bool.{le-leb, lt-leb, lt-ltb, le-ltb}
 use Rattle.std.proofs.lemmas.List.{take-append-le, take-take, take_at, drop-take, drop-drop, drop_at, length-append}
-use Rattle.std.proofs.lemmas.List.{length-take-le, length-drop}
+use Rattle.std.proofs.lemmas.List.{append-nil, length-take-le, length-drop}
 use Rattle.std.proofs.Math.Seq.{drop-append-add}
 use Rattle.mp4_remux_files.specs.declared.movement.Move.{Move}
-use Rattle.mp4_remux_files.specs.Moved.{moved, moved_file, IsCut}
-use Rattle.mp4_remux_files.specs.Laws.{BytesAreKept, LengthIsKept, MovieIsMoved}
+use Rattle.mp4_remux.specs.Splices.{spliced}
+use Rattle.mp4_remux.specs.declared.edits.splice.Splice.{Splice}
+use Rattle.mp4_remux_files.specs.Moved.{AreMove, moved, moved_file, IsCut}
+use Rattle.mp4_remux_files.specs.Laws.{BytesAreKept, LengthIsKept, MoveIsSpliced, MovieIsMoved}
 
 -- the same bytes in the same beginning
 window : (xs ys : List ℕ) (o n : ℕ) → take (o + n) xs ≡ take (o + n) ys → take n (drop o xs) ≡ take n (drop o ys)
@@ -125,3 +127,28 @@ length_is_kept c B m shift = as_long c B m shift
 
 pub movie_is_moved : MovieIsMoved
 movie_is_moved c B m shift = movie_at c B m shift
+
+two_spliced : (B m : List ℕ) (c : Move) (p t : Splice) → p.begin ≡ c.insert → p.end ≡ c.insert → p.bytes.items ≡ m
+    → t.begin ≡ c.begin → t.end ≡ c.end → t.bytes.items ≡ [] → spliced B (p ∷ t ∷ []) ≡ moved_file c B m
+two_spliced B m c p t p_begin p_end p_bytes t_begin t_end t_bytes =
+    let none : c.insert - 0 ≡ c.insert = omega arith in
+    let old = take c.insert B in
+    let part = take (c.begin - c.insert) (drop c.insert B) in
+    ap (λ (k : ℕ). take (k - 0) B ++ p.bytes.items
+    ++ (take (t.begin - p.end) (drop p.end B) ++ t.bytes.items ++ drop t.end B)) p_begin
+    ∙ ap (λ (k : ℕ). take k B ++ p.bytes.items
+    ++ (take (t.begin - p.end) (drop p.end B) ++ t.bytes.items ++ drop t.end B)) none
+    ∙ ap (λ (k : ℕ). old ++ p.bytes.items ++ (take (t.begin - k) (drop k B) ++ t.bytes.items ++ drop t.end B)) p_end
+    ∙ ap (λ (xs : List ℕ). old ++ xs
+    ++ (take (t.begin - c.insert) (drop c.insert B) ++ t.bytes.items ++ drop t.end B)) p_bytes
+    ∙ ap (λ (k : ℕ). old ++ m ++ (take (k - c.insert) (drop c.insert B) ++ t.bytes.items ++ drop t.end B)) t_begin
+    ∙ ap (λ (xs : List ℕ). old ++ m ++ (part ++ xs ++ drop t.end B)) t_bytes
+    ∙ ap (λ (k : ℕ). old ++ m ++ (part ++ [] ++ drop k B)) t_end
+    ∙ ap (λ (xs : List ℕ). old ++ m ++ (xs ++ drop c.end B)) (append-nil part)
+    ∙ sym (append_assoc (old ++ m) part (drop c.end B))
+
+pub move_is_spliced : MoveIsSpliced
+move_is_spliced c B m ss is =
+    ap (λ (ts : List Splice). spliced B ts) is.all
+    ∙ two_spliced B m c is.put is.taken is.put_begin is.put_end is.put_bytes is.taken_begin is.taken_end
+    is.taken_bytes

@@ -1,6 +1,8 @@
 pub mod Files
 pub mod Boxes
+pub mod FieldLists
 pub mod Parts
+pub mod Patching
 pub mod Plans
 pub mod Puts
 pub mod WholeEdits

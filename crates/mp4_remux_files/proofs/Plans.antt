@@ -1,18 +1,24 @@
 -- The plan of a file whose movie box is moved.
-use Rattle.std.proofs.Common.{◌≡◌, ℕ, ◌+◌, ◌-◌, ◌≤◌, List, [], ◌++◌, take, drop, length, None, Some, sym, ap, subst}
-use Rattle.std.proofs.Common.{append_assoc, ◌∙◌, arith}
+use Rattle.std.proofs.Common.{◌≡◌, ℕ, ◌+◌, ◌-◌, ◌≤◌, List, [], ◌∷◌, ◌++◌, take, drop, length, None, Some}
+use Rattle.std.proofs.Common.{sym, ap, subst, append_assoc, ◌∙◌, arith}
 use Rattle.std.proofs.Math.Seq.{take-add}
 use Rattle.std.proofs.lemmas.List.{append-nil, drop-drop, take-take, take_rest, take_all}
 use Rattle.std.specs.Prelude.{Err, IfSome, Ok, OnOk, Result}
 use Rattle.std.specs.declared.option.Option.{Option}
 use Rattle.mp4_remux.proofs.Bytes.{window}
+use Rattle.mp4_remux.proofs.Splicing.{last_piece}
 use Rattle.mp4_remux.specs.Pieces.{bytes_of, spelled}
 use Rattle.mp4_remux.specs.declared.pieces.piece.Piece.{Piece}
 use Rattle.mp4_remux.specs.declared.pieces.piece.Piece.TheVariants.{Old}
-use Rattle.mp4_walk.specs.Source.{IsWindow}
-use Rattle.mp4_remux_files.specs.Moved.{AddsPart, moved_file}
+use Rattle.mp4_remux.specs.Splices.{spliced, spliced_from}
+use Rattle.mp4_remux.specs.declared.edits.splice.Splice.{Splice}
+use Rattle.mp4_walk.specs.FileBoxes.{boxes_of}
+use Rattle.mp4_walk.specs.Source.{IsWindow, piece}
+use Rattle.mp4_walk.specs.declared.tree_box.TreeBox.{TreeBox}
+use Rattle.mp4_remux_files.specs.Moved.{AddsPart, AreMove}
 use Rattle.mp4_remux_files.specs.Movie.{IsMovieAfter}
-use Rattle.mp4_remux_files.specs.FastStarts.{PlansMove, movie_of}
+use Rattle.mp4_remux_files.specs.FastStarts.{AreMoveOf, PlansMove, movie_of}
+use Rattle.mp4_remux_files.specs.Shifted.{Follow}
 use Rattle.mp4_remux_files.specs.declared.movement.Move.{Move}
 
 no_pieces : (B : List ℕ) (ps : List Piece) → ps ≡ [] → spelled B ps ≡ []
@@ -35,24 +41,6 @@ pub copied : (n : ℕ) (p q : List Piece) → p ≡ []
     → spelled B q ≡ B
 copied n p q none push B long =
     first_piece n p q none push B ∙ ap (λ (k : ℕ). take k B) long ∙ take_all (length B) B (omega arith)
-
--- four parts are the file with its movie box moved
-pub parts : (c : Move) (n : ℕ) (xs m : List ℕ) (p q r s t : List Piece) → p ≡ []
-    → ((B : List ℕ) → spelled B q ≡ spelled B p ++ bytes_of B (Old 0 c.insert))
-    → ((B : List ℕ) → IsWindow B c.begin xs → spelled B r ≡ spelled B q ++ m)
-    → ((B : List ℕ) → spelled B s ≡ spelled B r ++ bytes_of B (Old c.insert c.begin))
-    → ((B : List ℕ) → spelled B t ≡ spelled B s ++ bytes_of B (Old c.end n)) → (B : List ℕ) → n ≡ length B
-    → IsWindow B c.begin xs → spelled B t ≡ moved_file c B m
-parts c n xs m p q r s t none one two three four B long window =
-    let front = take c.insert B in
-    let between = take (c.begin - c.insert) (drop c.insert B) in
-    let e : spelled B q ≡ front = first_piece c.insert p q none one B in
-    let f : spelled B r ≡ front ++ m = two B window ∙ ap (λ (xs : List ℕ). xs ++ m) e in
-    let g : spelled B s ≡ front ++ m ++ between = three B ∙ ap (λ (xs : List ℕ). xs ++ between) f in
-    let last : take (n - c.end) (drop c.end B) ≡ drop c.end B =
-    ap (λ (k : ℕ). take (k - c.end) (drop c.end B)) long ∙ take_rest B c.end in
-    four B ∙ ap (λ (xs : List ℕ). xs ++ take (n - c.end) (drop c.end B)) g
-    ∙ ap (λ (xs : List ℕ). front ++ m ++ between ++ xs) last
 
 -- a range of the old movie box
 old_part : (B : List ℕ) (begin at to : ℕ) (xs m : List ℕ) → at ≤ to → to ≤ length xs → IsWindow B begin xs
@@ -107,14 +95,78 @@ pub all_parts : (begin at : ℕ) (xs m : List ℕ) (ps qs : List Piece) → leng
 all_parts begin at xs m ps qs past so_far B window =
     so_far B window ∙ ap (λ (ys : List ℕ). spelled B ps ++ ys) (take_all at m past)
 
+-- the bytes up to a splice are added, and its own
+pub splice_pushed : (B : List ℕ) (begin at : ℕ) (xs : List ℕ) (s : Splice) (ps qs rs : List Piece)
+    → ((B : List ℕ) → spelled B qs ≡ spelled B ps ++ bytes_of B (Old at s.begin))
+    → ((B : List ℕ) → IsWindow B begin xs → spelled B rs ≡ spelled B qs ++ s.bytes.items) → IsWindow B begin xs
+    → spelled B rs ≡ spelled B ps ++ piece B at (s.begin - at) ++ s.bytes.items
+splice_pushed B begin at xs s ps qs rs one two window =
+    two B window ∙ ap (λ (ys : List ℕ). ys ++ s.bytes.items) (one B)
+
+-- the bytes after the last splice are planned
+pub plan_ended : (begin n at : ℕ) (xs : List ℕ) (ss all : List Splice) (ps qs : List Piece) → ss ≡ []
+    → ((B : List ℕ) → spelled B qs ≡ spelled B ps ++ bytes_of B (Old at n))
+    → ((B : List ℕ) → IsWindow B begin xs → spelled B ps ++ spliced_from B at ss ≡ spliced B all) → (B : List ℕ)
+    → n ≡ length B → IsWindow B begin xs → spelled B qs ≡ spliced B all
+plan_ended begin n at xs ss all ps qs none push so_far B long window =
+    last_piece B ps qs at n ss (spliced B all) long none (push B) (so_far B window)
+
+-- two splices move the movie box
+pub moves_made : (c : Move) (m : List ℕ) (put taken : Splice) (os ps ss : List Splice) → os ≡ []
+    → ps ≡ os ++ put ∷ [] → ss ≡ ps ++ taken ∷ [] → put.depth ≡ 0 → put.begin ≡ c.insert → put.end ≡ c.insert
+    → put.bytes.items ≡ m → taken.depth ≡ 0 → taken.begin ≡ c.begin → taken.end ≡ c.end → taken.bytes.items ≡ []
+    → AreMove c m ss
+moves_made c m put taken os ps ss none one two put_depth put_begin put_end put_bytes taken_depth taken_begin taken_end
+    taken_bytes = record {
+      put = put;
+      taken = taken;
+      all = two ∙ ap (λ (us : List Splice). us ++ taken ∷ []) (one ∙ ap (λ (us : List Splice). us ++ put ∷ []) none);
+      put_depth = put_depth;
+      put_begin = put_begin;
+      put_end = put_end;
+      put_bytes = put_bytes;
+      taken_depth = taken_depth;
+      taken_begin = taken_begin;
+      taken_end = taken_end;
+      taken_bytes = taken_bytes;
+    }
+
 -- the plan of a file whose movie box was read
-pub planned : (c : Move) (n : ℕ) (movie m : List ℕ) (ps : List Piece) (r : Option (List ℕ))
-    → IfSome r (λ B. movie ≡ movie_of c B) → IfSome r (λ B. IsWindow B c.begin movie) → IsMovieAfter c movie m
-    → ((B : List ℕ) → n ≡ length B → IsWindow B c.begin movie → spelled B ps ≡ moved_file c B m)
+pub planned : (c : Move) (n : ℕ) (movie : List ℕ) (all : List Splice) (ps : List Piece) (r s : Option (List ℕ))
+    → s ≡ r → IfSome r (λ B. movie ≡ movie_of c B) → IfSome r (λ B. IsWindow B c.begin movie)
+    → IfSome s (λ B. movie ≡ movie_of c B → AreMoveOf B c all)
+    → ((B : List ℕ) → n ≡ length B → IsWindow B c.begin movie → spelled B ps ≡ spliced B all)
     → IfSome r (λ B. n ≡ length B → PlansMove B c ps)
-planned c n movie m ps None is window after file = tt
-planned c n movie m ps (Some B) is window after file = λ long.
-    (m, subst (λ (xs : List ℕ). IsMovieAfter c xs m) is after, file B long window)
+planned c n movie all ps None s same is window moves file = tt
+planned c n movie all ps (Some B) s same is window moves file = λ long.
+    let moves' : movie ≡ movie_of c B → AreMoveOf B c all =
+    subst (λ (o : Option (List ℕ)). IfSome o (λ B. movie ≡ movie_of c B → AreMoveOf B c all)) same moves in
+    (all, moves' is, file B long window)
+
+-- the splices of a move, and those that set fields after them
+pub moves_followed : (c : Move) (boxes : List TreeBox) (movie m : List ℕ) (ss all : List Splice)
+    (r : Option (List ℕ)) → IsMovieAfter c movie m → AreMove c m ss
+    → IfSome r (λ B. boxes ≡ boxes_of B → Follow B ss all)
+    → IfSome r (λ B. boxes ≡ boxes_of B → movie ≡ movie_of c B → AreMoveOf B c all)
+moves_followed c boxes movie m ss all None after are follow = tt
+moves_followed c boxes movie m ss all (Some B) after are follow = λ is_boxes is. record {
+  movie = m;
+  is_movie = subst (λ (xs : List ℕ). IsMovieAfter c xs m) is after;
+  moves = ss;
+  are_moves = are;
+  follow = follow is_boxes;
+}
+
+-- the same of a source that was read
+pub moves_read : (c : Move) (boxes : List TreeBox) (movie : List ℕ) (all : List Splice) (r s : Option (List ℕ))
+    → s ≡ r → IfSome r (λ B. boxes ≡ boxes_of B)
+    → IfSome s (λ B. boxes ≡ boxes_of B → movie ≡ movie_of c B → AreMoveOf B c all)
+    → IfSome r (λ B. movie ≡ movie_of c B → AreMoveOf B c all)
+moves_read c boxes movie all None s same are moves = tt
+moves_read c boxes movie all (Some B) s same are moves =
+    let moves' : boxes ≡ boxes_of B → movie ≡ movie_of c B → AreMoveOf B c all =
+    subst (λ (o : Option (List ℕ)). IfSome o (λ B. boxes ≡ boxes_of B → movie ≡ movie_of c B → AreMoveOf B c all))
+    same moves in moves' are
 
 -- the bytes that were read of the movie box
 pub movie_read : (c : Move) (r : Option (List ℕ)) (bytes : List ℕ) → length bytes ≡ c.end - c.begin

@@ -11,10 +11,11 @@ use Rattle.mp4_walk.specs.Source.{piece}
 use Rattle.mp4_walk.specs.declared.tree_box.TreeBox.{TreeBox}
 use Rattle.mp4_remux.specs.Splices.{AreInOrder, box_end, is_top}
 use Rattle.mp4_remux.specs.declared.edits.splice.Splice.{Splice}
-use Rattle.mp4_remux_files.specs.EditedFile.{AreTopsOf, IsEditedAlone, IsEditedAround, IsInner, IsUnmisled}
+use Rattle.mp4_remux_files.specs.EditedFile.{AreAllOf, AreTopsOf, IsEditedAlone, IsEditedAround, IsInner, IsUnmisled}
 use Rattle.mp4_remux_files.specs.EditedFile.{IsUntouched}
 use Rattle.mp4_remux_files.specs.EditedMovie.{IsMovieEdited}
 use Rattle.mp4_remux_files.specs.Places.{first_box}
+use Rattle.mp4_remux_files.specs.Shifted.{Follow}
 use Rattle.mp4_remux_files.specs.declared.refusal.Stop.{Stop}
 
 -- the splices are those of the top level around the movie box, with the one that replaces it
@@ -25,7 +26,7 @@ pub around : (B : List ℕ) (x : TreeBox) (ss all tops inner : List Splice) (m :
     → m.depth ≡ 0 → m.begin ≡ begin → m.end ≡ end
     → IsMovieEdited begin end tops inner (piece B x.position x.length) m.bytes.items
     → AreInOrder (length B) all
-    → IsUnmisled all inner begin end (length B) (boxes_of B)
+    → IsUnmisled all (length B) (boxes_of B)
     → IsEditedAround B x ss all
 around B x ss all tops inner m n begin end begins ends are_tops are_inner joins depth m_begin m_end edited order
     steady =
@@ -42,7 +43,7 @@ around B x ss all tops inner m n begin end begins ends are_tops are_inner joins 
       begin = m_begin ∙ begins;
       end = m_end ∙ ends;
       order = order;
-      steady = rw (m_begin, m_end) steady;
+      steady = steady;
       edited = rw (m_begin, m_end, both) edited;
     }
 
@@ -88,13 +89,13 @@ tops_alone items (Some B) boxes n ss res long order untouched first same edited 
 
 -- the splices are all of the top level, if the bytes of the file are known
 pub alone_in : (r : Option (List ℕ)) (boxes : List TreeBox) (ss : List Splice) → All (λ s. IsTrue (is_top s)) ss
-    → IfSome r (λ B. AreInOrder (length B) ss) → IfSome r (λ B. IsUnmisled ss [] 0 0 (length B) boxes)
+    → IfSome r (λ B. AreInOrder (length B) ss) → IfSome r (λ B. IsUnmisled ss (length B) boxes)
     → IfSome r (λ B. boxes ≡ boxes_of B → IsEditedAlone (boxes_of B) (length B) ss)
 alone_in None boxes ss tops order steady = tt
 alone_in (Some B) boxes ss tops order steady = λ are. record {
   tops = tops;
   order = order;
-  steady = subst (λ (xs : List TreeBox). IsUnmisled ss [] 0 0 (length B) xs) are steady;
+  steady = subst (λ (xs : List TreeBox). IsUnmisled ss (length B) xs) are steady;
 }
 
 -- the splices are those around the movie box and the one that replaces it, if the bytes of the file are known
@@ -104,7 +105,7 @@ pub around_in : (r s : Option (List ℕ)) (boxes : List TreeBox) (x : TreeBox) (
     → AllZip (IsInner x.position (box_end x)) (filter (λ s. not (is_top s)) ss) inner
     → all ≡ take n tops ++ m ∷ drop n tops → m.depth ≡ 0 → m.begin ≡ begin → m.end ≡ end
     → IfSome r (λ B. IsMovieEdited begin end tops inner (piece B x.position x.length) m.bytes.items)
-    → IfSome s (λ B. AreInOrder (length B) all) → IfSome s (λ B. IsUnmisled all inner begin end (length B) boxes)
+    → IfSome s (λ B. AreInOrder (length B) all) → IfSome s (λ B. IsUnmisled all (length B) boxes)
     → IfSome r (λ B. boxes ≡ boxes_of B → IsEditedAround B x ss all)
 around_in None s boxes x ss all tops inner m n begin end same begins ends are_tops are_inner joins depth m_begin m_end
     edited order steady = tt
@@ -112,7 +113,18 @@ around_in (Some B) s boxes x ss all tops inner m n begin end same begins ends ar
     m_end edited order steady = λ are.
     let order' : AreInOrder (length B) all =
     subst (λ (o : Option (List ℕ)). IfSome o (λ B. AreInOrder (length B) all)) same order in
-    let steady' : IsUnmisled all inner begin end (length B) boxes =
-    subst (λ (o : Option (List ℕ)). IfSome o (λ B. IsUnmisled all inner begin end (length B) boxes)) same steady in
+    let steady' : IsUnmisled all (length B) boxes =
+    subst (λ (o : Option (List ℕ)). IfSome o (λ B. IsUnmisled all (length B) boxes)) same steady in
     around B x ss all tops inner m n begin end begins ends are_tops are_inner joins depth m_begin m_end edited order'
-    (subst (λ (xs : List TreeBox). IsUnmisled all inner begin end (length B) xs) are steady')
+    (subst (λ (xs : List TreeBox). IsUnmisled all (length B) xs) are steady')
+
+-- the splices of the top level, and those that set fields after them
+pub all_followed : (r s : Option (List ℕ)) (boxes : List TreeBox) (ss tops all : List Splice) → s ≡ r
+    → IfSome r (λ B. boxes ≡ boxes_of B → AreTopsOf B ss tops)
+    → IfSome s (λ B. boxes ≡ boxes_of B → Follow B tops all)
+    → IfSome r (λ B. boxes ≡ boxes_of B → AreAllOf B ss all)
+all_followed None s boxes ss tops all same are follow = tt
+all_followed (Some B) s boxes ss tops all same are follow = λ is.
+    let follow' : boxes ≡ boxes_of B → Follow B tops all =
+    subst (λ (o : Option (List ℕ)). IfSome o (λ B. boxes ≡ boxes_of B → Follow B tops all)) same follow in
+    (tops, are is, follow' is)

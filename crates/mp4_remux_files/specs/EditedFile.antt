@@ -11,13 +11,14 @@ use Rattle.mp4_walk.specs.Source.{piece}
 use Rattle.mp4_walk.specs.declared.tree_box.TreeBox.{TreeBox}
 use Rattle.mp4_remux.specs.Edits.{AreNamed}
 use Rattle.mp4_remux.specs.Shortcuts.{HidesDropped, asked_by, dropped_by, other_by}
-use Rattle.mp4_remux.specs.Splices.{AreInOrder, box_end, is_top, is_uneven, removed, spliced}
+use Rattle.mp4_remux.specs.Splices.{AreInOrder, box_end, is_top, spliced}
 use Rattle.mp4_remux.specs.Whole.{KeepsMedia}
 use Rattle.mp4_remux.specs.declared.edits.edit.Edit.{Edit}
 use Rattle.mp4_remux.specs.declared.edits.shortcut.Shortcut.{Shortcut}
 use Rattle.mp4_remux.specs.declared.edits.splice.Splice.{Splice}
 use Rattle.mp4_remux_files.specs.EditedMovie.{IsMovieEdited}
-use Rattle.mp4_remux_files.specs.Places.{counts_from_front, first_box, leads_on}
+use Rattle.mp4_remux_files.specs.Places.{first_box, leads_on}
+use Rattle.mp4_remux_files.specs.Shifted.{Follow, moves}
 
 -- the box has the sample tables of a track (ISO/IEC 14496-12, 8.5.1) or is a fragment (8.8.4)
 abbrev pub is_sample_box : TreeBox → Bool
@@ -32,21 +33,13 @@ is_beside x s =
 abbrev pub IsUntouched : List Splice → TreeBox → Type 0
 IsUntouched ss x = IsTrue (is_sample_box x) → All (λ s. IsTrue (is_beside x s)) ss
 
--- the splice moves what is after it in a file of n bytes, or takes it away
-abbrev pub moves : ℕ → Splice → Bool
-moves n s = is_uneven s && (nat_lt 0 (removed s) || nat_lt s.end n)
+-- the samples of the box, which is a fragment in a file of n bytes, would not stay as far after it
+abbrev pub is_misled_by : List Splice → ℕ → TreeBox → Bool
+is_misled_by ss n x = leads_on x && list_any (λ s. moves n s && nat_lt x.position s.begin) ss
 
--- The offsets of the box, which are not shifted, would lead elsewhere. The movie box has the bytes from b to e of a
--- file of n bytes; `all` are the splices of the top level, and `inner` those in the movie box
-abbrev pub is_misled_by : List Splice → List Splice → ℕ → ℕ → ℕ → TreeBox → Bool
-is_misled_by all inner b e n x =
-    ((nat_lt x.position b || nat_le e x.position) && counts_from_front x
-    && (list_any (moves n) all || list_any is_uneven inner))
-    || (leads_on x && list_any (λ s. moves n s && nat_lt x.position s.begin) all)
-
--- no box has offsets that would lead elsewhere and are not shifted
-abbrev pub IsUnmisled : List Splice → List Splice → ℕ → ℕ → ℕ → List TreeBox → Type 0
-IsUnmisled all inner b e n boxes = All (λ x. is_misled_by all inner b e n x ≡ false) boxes
+-- all fragments keep their samples after them
+abbrev pub IsUnmisled : List Splice → ℕ → List TreeBox → Type 0
+IsUnmisled ss n boxes = All (λ x. is_misled_by ss n x ≡ false) boxes
 
 -- t is the splice s with its positions in the bytes from b to e, in which it is
 pub record IsInner (b e : ℕ) (s t : Splice) : Type 0 where
@@ -71,7 +64,7 @@ pub record IsEditedAround (B : List ℕ) (x : TreeBox) (ss all : List Splice) : 
   pub begin : movie.begin ≡ x.position
   pub end : movie.end ≡ x.position + x.length
   pub order : AreInOrder (length B) all
-  pub steady : IsUnmisled all inner movie.begin movie.end (length B) (boxes_of B)
+  pub steady : IsUnmisled all (length B) (boxes_of B)
   pub edited :
       IsMovieEdited movie.begin movie.end (before ++ after) inner (piece B x.position x.length) movie.bytes.items
 
@@ -79,7 +72,7 @@ pub record IsEditedAround (B : List ℕ) (x : TreeBox) (ss all : List Splice) : 
 pub record IsEditedAlone (boxes : List TreeBox) (n : ℕ) (all : List Splice) : Type 0 where
   pub tops : All (λ s. IsTrue (is_top s)) all
   pub order : AreInOrder n all
-  pub steady : IsUnmisled all [] 0 0 n boxes
+  pub steady : IsUnmisled all n boxes
 
 abbrev pub AreTopsBy : List ℕ → Option TreeBox → List Splice → List Splice → Type 0
 AreTopsBy B None ss all = (all ≡ ss) × IsEditedAlone (boxes_of B) (length B) all
@@ -92,9 +85,14 @@ pub record AreTopsOf (B : List ℕ) (ss all : List Splice) : Type 0 where
   pub untouched : All (IsUntouched ss) (boxes_of B)
   pub tops : AreTopsBy B (first_box codes.MOOV (boxes_of B)) ss all
 
+-- The splices `all` stand for the splices ss of the file B: they are those of the top level, and those that set the
+-- fields of other boxes after these
+abbrev pub AreAllOf : List ℕ → List Splice → List Splice → Type 0
+AreAllOf B ss all = (tops : List Splice) × AreTopsOf B ss tops × Follow B tops all
+
 -- The file C is the file B after the splices ss
 abbrev pub IsEdited : List ℕ → List Splice → List ℕ → Type 0
-IsEdited B ss C = (all : List Splice) × AreTopsOf B ss all × (C ≡ spliced B all)
+IsEdited B ss C = (all : List Splice) × AreAllOf B ss all × (C ≡ spliced B all)
 
 -- the same, and the media are kept
 abbrev pub KeepsEdited : List ℕ → List Splice → List ℕ → Type 0

@@ -1,5 +1,5 @@
 -- A movie box after edits.
-use Rattle.std.specs.Prelude.{ℕ, ◌≡◌, ◌+◌, ◌-◌, ◌^◌, ◌≤◌, ◌==◌, ◌&&◌, ◌⊎◌, Bool, IsTrue, false, not, nat_le, nat_lt}
+use Rattle.std.specs.Prelude.{ℕ, ◌≡◌, ◌+◌, ◌-◌, ◌≤◌, ◌==◌, ◌&&◌, ◌⊎◌, Bool, IsTrue, false, not, nat_le, nat_lt}
 use Rattle.std.specs.Prelude.{List, [], ◌∷◌, length, filter, if◌then◌else◌}
 use Rattle.std.specs.List.{AllZip, list_any}
 use Rattle.mp4_frame.specs.Bytes.{number}
@@ -7,13 +7,10 @@ use Rattle.mp4_walk.specs.FileBoxes.{boxes_of}
 use Rattle.mp4_walk.specs.declared.tree_box.TreeBox.{TreeBox}
 use Rattle.mp4_remux.specs.Splices.{has_byte, place}
 use Rattle.mp4_remux.specs.declared.edits.splice.Splice.{Splice}
+use Rattle.mp4_remux_files.specs.Fields.{gone}
 use Rattle.mp4_remux_files.specs.Movie.{AreBoxesAfter, between}
 use Rattle.mp4_remux_files.specs.Offsets.{place_in}
 use Rattle.mp4_remux_files.specs.declared.edited.Span.{Span}
-
--- in place of an offset to a byte that is replaced: no field of an offset has room for it
-abbrev pub gone : ℕ
-gone = 2 ^ 64
 
 -- The offset in place of o, which doesn't lead into the movie box: it leads to the same byte. The movie box has the
 -- bytes from b to e, and n bytes after the edits; `tops` are the edits outside of it

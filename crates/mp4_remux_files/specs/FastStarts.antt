@@ -2,30 +2,41 @@
 use Rattle.std.specs.Prelude.{ℕ, ◌≡◌, ◌-◌, List, length, None, Some}
 use Rattle.std.specs.declared.option.Option.{Option}
 use Rattle.mp4_remux.specs.Pieces.{spelled}
+use Rattle.mp4_remux.specs.Splices.{spliced}
+use Rattle.mp4_remux.specs.declared.edits.splice.Splice.{Splice}
 use Rattle.mp4_remux.specs.declared.pieces.piece.Piece.{Piece}
 use Rattle.mp4_remux.specs.Whole.{KeepsMedia}
 use Rattle.mp4_walk.specs.FileBoxes.{boxes_of}
 use Rattle.mp4_walk.specs.Source.{piece}
-use Rattle.mp4_remux_files.specs.Moved.{moved_file}
+use Rattle.mp4_remux_files.specs.Moved.{AreMove}
 use Rattle.mp4_remux_files.specs.Movie.{IsMovieAfter}
 use Rattle.mp4_remux_files.specs.Places.{IsInFront, IsMove}
+use Rattle.mp4_remux_files.specs.Shifted.{Follow}
 use Rattle.mp4_remux_files.specs.declared.movement.Move.{Move}
 
 -- the movie box of a file
 abbrev pub movie_of : Move → List ℕ → List ℕ
 movie_of c B = piece B c.begin (c.end - c.begin)
 
--- the pieces are the file B with its movie box moved
-abbrev pub PlansMove : List ℕ → Move → List Piece → Type 0
-PlansMove B c ps = (m : List ℕ) × IsMovieAfter c (movie_of c B) m × (spelled B ps ≡ moved_file c B m)
-
--- The file C is the file B with its first `moov` before its first `mdat`. All other bytes are the same, in the same
--- order, and the `moov` is the same, except for its offsets
-pub record MovesMovie (B : List ℕ) (c : Move) (C : List ℕ) : Type 0 where
-  pub move : IsMove (boxes_of B) (length B) c
+-- The splices `all` move the movie box of the file B, and set the fields of the boxes outside of it
+pub record AreMoveOf (B : List ℕ) (c : Move) (all : List Splice) : Type 0 where
   pub movie : List ℕ
   pub is_movie : IsMovieAfter c (movie_of c B) movie
-  pub file : C ≡ moved_file c B movie
+  pub moves : List Splice
+  pub are_moves : AreMove c movie moves
+  pub follow : Follow B moves all
+
+-- the pieces are the file B with its movie box moved
+abbrev pub PlansMove : List ℕ → Move → List Piece → Type 0
+PlansMove B c ps = (all : List Splice) × AreMoveOf B c all × (spelled B ps ≡ spliced B all)
+
+-- The file C is the file B with its first `moov` before its first `mdat`. All other bytes are the same, in the same
+-- order, except for fields that lead to bytes of the file. The `moov` is the same, except for its offsets
+pub record MovesMovie (B : List ℕ) (c : Move) (C : List ℕ) : Type 0 where
+  pub move : IsMove (boxes_of B) (length B) c
+  pub all : List Splice
+  pub are_move : AreMoveOf B c all
+  pub file : C ≡ spliced B all
 
 -- the file C is the file B with its movie box moved, and keeps its media; or the file B itself, if its movie box is
 -- before its media data

@@ -1,7 +1,9 @@
 -- Laws of the definitions.
 use Rattle.std.specs.Prelude.{ℕ, ◌≡◌, ◌+◌, ◌-◌, List, length, take, drop}
 use Rattle.mp4_remux_files.specs.declared.movement.Move.{Move}
-use Rattle.mp4_remux_files.specs.Moved.{moved, moved_file, IsInOnePart, IsCut}
+use Rattle.mp4_remux.specs.Splices.{spliced}
+use Rattle.mp4_remux.specs.declared.edits.splice.Splice.{Splice}
+use Rattle.mp4_remux_files.specs.Moved.{AreMove, moved, moved_file, IsInOnePart, IsCut}
 
 -- bytes of one part are where `moved` says
 abbrev pub BytesAreKept : Type 0
@@ -13,6 +15,10 @@ BytesAreKept =
 abbrev pub LengthIsKept : Type 0
 LengthIsKept =
     (c : Move) (B m : List ℕ) → IsCut c B → length (moved_file c B m) + (c.end - c.begin) ≡ length B + length m
+
+-- the splices of a move make that file of B
+abbrev pub MoveIsSpliced : Type 0
+MoveIsSpliced = (c : Move) (B m : List ℕ) (ss : List Splice) → AreMove c m ss → spliced B ss ≡ moved_file c B m
 
 -- the movie box is where it goes
 abbrev pub MovieIsMoved : Type 0

@@ -1,6 +1,8 @@
 pub mod Moved
 pub mod Places
+pub mod Fields
 pub mod Offsets
+pub mod Shifted
 pub mod Movie
 pub mod FastStarts
 pub mod Laws

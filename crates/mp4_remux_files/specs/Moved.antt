@@ -1,8 +1,10 @@
 -- A file whose movie box is moved, and where its bytes are then.
-use Rattle.std.specs.Prelude.{ℕ, ◌≡◌, ◌+◌, ◌-◌, ◌≤◌, ◌⊎◌, ◌++◌, ◌&&◌, nat_le, nat_lt, List, length, take, drop}
+use Rattle.std.specs.Prelude.{ℕ, ◌≡◌, ◌+◌, ◌-◌, ◌≤◌, ◌⊎◌, ◌++◌, ◌&&◌, nat_le, nat_lt}
+use Rattle.std.specs.Prelude.{List, [], ◌∷◌, length, take, drop}
 use Rattle.std.specs.Prelude.{if◌then◌else◌}
 use Rattle.mp4_remux.specs.Pieces.{spelled}
 use Rattle.mp4_remux.specs.declared.pieces.piece.Piece.{Piece}
+use Rattle.mp4_remux.specs.declared.edits.splice.Splice.{Splice}
 use Rattle.mp4_walk.specs.Source.{IsWindow}
 use Rattle.mp4_remux_files.specs.declared.movement.Move.{Move}
 
@@ -15,6 +17,20 @@ moved c n o =
 -- the file B after the move, in which m stands for the movie box
 abbrev pub moved_file : Move → List ℕ → List ℕ → List ℕ
 moved_file c B m = take c.insert B ++ m ++ take (c.begin - c.insert) (drop c.insert B) ++ drop c.end B
+
+-- The splices move the movie box, which is m at its new place
+pub record AreMove (c : Move) (m : List ℕ) (ss : List Splice) : Type 0 where
+  pub put : Splice
+  pub taken : Splice
+  pub all : ss ≡ put ∷ taken ∷ []
+  pub put_depth : put.depth ≡ 0
+  pub put_begin : put.begin ≡ c.insert
+  pub put_end : put.end ≡ c.insert
+  pub put_bytes : put.bytes.items ≡ m
+  pub taken_depth : taken.depth ≡ 0
+  pub taken_begin : taken.begin ≡ c.begin
+  pub taken_end : taken.end ≡ c.end
+  pub taken_bytes : taken.bytes.items ≡ []
 
 -- the pieces qs are the pieces ps, and then the bytes of m from `at` to `to`, if the movie box xs begins at `begin`
 abbrev pub AddsPart : ℕ → List ℕ → List ℕ → ℕ → ℕ → List Piece → List Piece → Type 0

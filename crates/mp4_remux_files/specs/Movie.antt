@@ -14,6 +14,7 @@ use Rattle.mp4_walk.specs.Tops.{is_whole}
 use Rattle.mp4_walk.specs.declared.tree_box.BoxState.{BoxState}
 use Rattle.mp4_walk.specs.declared.tree_box.BoxState.TheVariants as states
 use Rattle.mp4_walk.specs.declared.tree_box.TreeBox.{TreeBox}
+use Rattle.mp4_remux_files.specs.Fields.{AreSet, place_fields}
 use Rattle.mp4_remux_files.specs.Offsets.{has_offsets, offset_after, table_in}
 use Rattle.mp4_remux_files.specs.declared.movement.Move.{Move}
 use Rattle.mp4_remux_files.specs.declared.offsets.OffsetTable.{OffsetTable}
@@ -75,13 +76,20 @@ pub record IsTableAfter (to : ℕ → ℕ) (xs ys : List ℕ) (x y : TreeBox) (t
   pub offsets : AreListed t.is_wide u.is_wide to (between xs t.begin t.end) (between ys u.begin u.end)
   pub rest : between ys u.end (own_end y) ≡ between xs t.end (own_end x)
 
--- the same, whether the boxes have tables or not. A box without a table has no offsets, and the same bytes
+-- the bytes ys of a box that has no table are the bytes xs of before, or those of an `iloc` after the change
+abbrev pub AreOwnAfter : (ℕ → ℕ) → Bool → List ℕ → List ℕ → Type 0
+AreOwnAfter to false xs ys = ys ≡ xs
+AreOwnAfter to true xs ys = AreSet xs ys (place_fields to xs)
+
+-- the same, whether the boxes have tables or not. A box without a table has no offsets, and the same bytes, except for
+-- the places of items
 abbrev pub IsContentAfter : (ℕ → ℕ) → List ℕ → List ℕ → TreeBox → TreeBox → Option OffsetTable → Option OffsetTable
     → Type 0
 IsContentAfter to xs ys x y (Some t) (Some u) = IsTableAfter to xs ys x y t u
 IsContentAfter to xs ys x y (Some t) None = ⊥
 IsContentAfter to xs ys x y None u =
-    (has_offsets x ≡ false) × IsTrue (is_same_code x.code y.code) × (own_bytes ys y ≡ own_bytes xs x)
+    (has_offsets x ≡ false) × IsTrue (is_same_code x.code y.code)
+    × AreOwnAfter to (is_code (four_cc_of codes.ILOC) x.code) (own_bytes xs x) (own_bytes ys y)
 
 -- the box y of ys is the box x of xs after the move
 pub record IsBoxAfter (to : ℕ → ℕ) (xs ys : List ℕ) (x y : TreeBox) : Type 0 where

@@ -50,12 +50,12 @@ table_in B x =
     if is_code (four_cc_of codes.CO64) x.code then table_at B (at_most (content_begin x + 4)) (box_end x) true else
     if is_code (four_cc_of codes.SAIO) x.code then auxiliary_table B (content_begin x) (box_end x) else None
 
--- boxes of this code have offsets that count from the front of the file, if they are in a `moov`; a `cmov` may have
+-- boxes of this code have a table of offsets that count from the front of the file, if they are in a `moov`; a `cmov`
+-- may have
 abbrev pub has_offsets : TreeBox → Bool
 has_offsets x =
     is_code (four_cc_of codes.STCO) x.code || is_code (four_cc_of codes.CO64) x.code
-    || is_code (four_cc_of codes.SAIO) x.code || is_code (four_cc_of codes.ILOC) x.code
-    || is_code (four_cc_of codes.CMOV) x.code
+    || is_code (four_cc_of codes.SAIO) x.code || is_code (four_cc_of codes.CMOV) x.code
 
 -- The place of byte o after the move, by the boxes of the movie box before and after it: as far from the beginning of
 -- the last box that begins at o or before it. That is the innermost box that has the byte, since boxes are in order

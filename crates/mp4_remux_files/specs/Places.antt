@@ -1,5 +1,5 @@
 -- The place of the movie box of a file, and its new place.
-use Rattle.std.specs.Prelude.{ℕ, ◌≡◌, ◌+◌, ◌<◌, ◌≤◌, ◌&&◌, ◌||◌, All, Bool, false, nat_le, nat_lt, List, None, Some}
+use Rattle.std.specs.Prelude.{ℕ, ◌≡◌, ◌+◌, ◌<◌, ◌≤◌, ◌&&◌, All, Bool, false, nat_lt, List, None, Some}
 use Rattle.std.specs.declared.option.Option.{Option}
 use Rattle.mp4_frame.specs.FourCC.{four_cc_of}
 use Rattle.mp4_frame.specs.declared.codes.TheConstants as codes
@@ -29,28 +29,19 @@ pub record IsMoveOf (boxes : List TreeBox) (length : ℕ) (c : Move) : Type 0 wh
   pub before : c.insert ≤ c.begin
   pub within : c.end ≤ length
 
--- outside the movie box, boxes of this code have offsets that count from the front of the file: those of items
--- (ISO/IEC 14496-12, 8.11.3), of fragments (8.8.10) and of auxiliary information (8.7.9)
-abbrev pub counts_from_front : TreeBox → Bool
-counts_from_front x =
-    is_code (four_cc_of codes.ILOC) x.code || is_code (four_cc_of codes.TFRA) x.code
-    || is_code (four_cc_of codes.SAIO) x.code
-
--- boxes of this code lead to what is after them: the subsegments of an index (8.16.3), or the samples of a fragment
+-- the box is a fragment, which leads to samples after it
 abbrev pub leads_on : TreeBox → Bool
-leads_on x = is_code (four_cc_of codes.SIDX) x.code || is_code (four_cc_of codes.MOOF) x.code
+leads_on x = is_code (four_cc_of codes.MOOF) x.code
 
--- the offsets of the box, which are not shifted, would lead elsewhere after the move
+-- the samples of the box, which is a fragment, would not stay as far after it
 abbrev pub is_misled : Move → TreeBox → Bool
-is_misled c x =
-    ((nat_lt x.position c.begin || nat_le c.end x.position) && counts_from_front x)
-    || (nat_lt x.position c.begin && leads_on x)
+is_misled c x = nat_lt x.position c.begin && leads_on x
 
--- no box outside the movie box has offsets that would lead elsewhere
+-- no fragment is before the movie box
 abbrev pub IsSteady : Move → List TreeBox → Type 0
 IsSteady c boxes = All (λ x. is_misled c x ≡ false) boxes
 
--- the same, and no other offset of the file would lead elsewhere
+-- the same, and all fragments keep their samples after them
 pub record IsMove (boxes : List TreeBox) (length : ℕ) (c : Move) : Type 0 where
   pub cut : IsMoveOf boxes length c
   pub steady : IsSteady c boxes

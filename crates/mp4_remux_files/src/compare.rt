@@ -2,14 +2,23 @@
 
 ghost use Rattle.std.specs.Prelude.{◌≡◌, ◌≢◌, IsTrue, IfOk, IfSome};
 ghost use Rattle.mp4_frame.specs.Bytes.{number};
-ghost use Rattle.mp4_remux_files.specs.Movie.{AreBoxesAfter, AreListed, AreMoved, IsBoxAfter, IsContentAfter};
+ghost use Rattle.mp4_frame.specs.FourCC.{four_cc_of};
+ghost use Rattle.mp4_frame.specs.declared.codes.TheConstants as codes;
+ghost use Rattle.mp4_remux_files.specs.Fields.{AreSet, place_fields};
+ghost use Rattle.mp4_remux_files.specs.Movie.{AreBoxesAfter, AreListed, AreMoved, AreOwnAfter, IsBoxAfter};
+ghost use Rattle.mp4_remux_files.specs.Movie.{IsContentAfter};
 ghost use Rattle.mp4_remux_files.specs.Movie.{IsMovieAfter, IsTableAfter, between, is_same_code, is_unread};
 ghost use Rattle.mp4_remux_files.specs.Movie.{is_widened, own_begin, own_bytes, own_end};
 ghost use Rattle.mp4_walk.specs.FileBoxes.{boxes_of};
+ghost use Rattle.mp4_walk.specs.Paths.{is_code};
 
+use crate::items::places;
 use crate::movement::Move;
+use crate::numbers::NoFields;
 use crate::offsets::{MovedOffsets, OffsetTable, has_offsets, table_in};
+use crate::ranges::are_same;
 use crate::refusal::Stop;
+use crate::setting::is_set;
 use crate::shift::Shift;
 use mp4_frame::{FourCC, codes, u32_at, u64_at};
 use mp4_movie::Movie;
@@ -93,18 +102,6 @@ fn are_listed<F: Shift>(was_wide: bool, is_wide: bool, old: &[u8], new: &[u8], s
     } else {
         are_short_moved(old, new, shift)
     }
-}
-
-/// Returns whether the bytes of `new` from `from` to `to` are those of `old` from `begin` to `end`.
-fn are_same(old: &[u8], begin: u64, end: u64, new: &[u8], from: u64, to: u64) -> bool
-    ensures { IsTrue result → between new.now from to ≡ between old.now begin end }
-{
-    if begin > end || end > old.len() as u64 || from > to || to > new.len() as u64 {
-        return false;
-    }
-    let before = &old[begin as usize..end as usize];
-    let after = &new[from as usize..to as usize];
-    after == before
 }
 
 /// The bytes of a box that are in no other box.
@@ -258,9 +255,76 @@ fn is_table_after<F: Shift>(
         && is_listed_after(old, new, table, other, shift)
 }
 
+/// Returns whether `new` is `old` with the places of items that `shift` puts in place of those in `old`, an `iloc`.
+fn are_placed<F: Shift>(alloc: Global, old: &[u8], new: &[u8], shift: &F) -> Result<bool, Stop>
+    ensures { IfOk result (λ is. IsTrue is → AreSet old.now new.now (place_fields (F.after shift.now) old.now)) }
+{
+    match places(alloc, shift, old) {
+        Ok(fields) => Ok(is_set(old, new, fields.as_slice())),
+        Err(NoFields::Unknown) => Ok(false),
+        Err(NoFields::Failed(failure)) => Err(Stop::Failed(failure)),
+    }
+}
+
+/// Returns whether the own bytes of `new_box` of `new` are those of the `iloc` `old_box` of `old`, with the places of
+/// items that `shift` puts in place of those.
+fn are_own_placed<F: Shift>(
+    alloc: Global,
+    old: &[u8],
+    new: &[u8],
+    old_box: &TreeBox,
+    new_box: &TreeBox,
+    shift: &F,
+) -> Result<bool, Stop>
+    ensures { IfOk result (λ is. IsTrue is → AreSet (own_bytes old.now old_box.now) (own_bytes new.now new_box.now)
+        (place_fields (F.after shift.now) (own_bytes old.now old_box.now))) }
+{
+    let Some(before) = own_of(old_box) else {
+        return Ok(false);
+    };
+    let Some(after) = own_of(new_box) else {
+        return Ok(false);
+    };
+    if before.begin > before.end || before.end > old.len() as u64 {
+        return Ok(false);
+    }
+    if after.begin > after.end || after.end > new.len() as u64 {
+        return Ok(false);
+    }
+    let is_same = are_placed(
+        alloc,
+        &old[before.begin as usize..before.end as usize],
+        &new[after.begin as usize..after.end as usize],
+        shift,
+    )?;
+    Ok(is_same)
+}
+
+/// Returns whether the own bytes of `new_box` of `new` are those of `old_box` of `old`, which has no table of offsets.
+/// The places of items in an `iloc` follow `shift`.
+fn are_own_after<F: Shift>(
+    alloc: Global,
+    old: &[u8],
+    new: &[u8],
+    old_box: &TreeBox,
+    new_box: &TreeBox,
+    shift: &F,
+) -> Result<bool, Stop>
+    ensures { IfOk result (λ is. IsTrue is → AreOwnAfter (F.after shift.now)
+        (is_code (four_cc_of codes.ILOC) old_box.now.code) (own_bytes old.now old_box.now)
+        (own_bytes new.now new_box.now)) }
+{
+    if old_box.has_code(FourCC::from(codes::ILOC)) {
+        let is_same = are_own_placed(alloc, old, new, old_box, new_box, shift)?;
+        return Ok(is_same);
+    }
+    Ok(are_own_same(old, new, old_box, new_box))
+}
+
 /// Returns whether the content of `new_box` of `new` is that of `old_box` of `old`, except for its offsets, which
 /// follow `shift`. `table` and `other` are the tables of these boxes.
 fn is_content_after<F: Shift>(
+    alloc: Global,
     old: &[u8],
     new: &[u8],
     old_box: &TreeBox,
@@ -268,38 +332,42 @@ fn is_content_after<F: Shift>(
     table: Option<OffsetTable>,
     other: Option<OffsetTable>,
     shift: &F,
-) -> bool
-    ensures { IsTrue result
-        → IsContentAfter (F.after shift.now) old.now new.now old_box.now new_box.now table other }
+) -> Result<bool, Stop>
+    ensures { IfOk result (λ is. IsTrue is
+        → IsContentAfter (F.after shift.now) old.now new.now old_box.now new_box.now table other) }
 {
     match table {
         Some(table) => match other {
-            Some(other) => is_table_after(old, new, old_box, new_box, table, other, shift),
-            None => false,
+            Some(other) => Ok(is_table_after(old, new, old_box, new_box, table, other, shift)),
+            None => Ok(false),
         },
-        None => !has_offsets(old_box)
-            && has_same_code(old_box, new_box)
-            && are_own_same(old, new, old_box, new_box),
+        None => {
+            let is_same = are_own_after(alloc, old, new, old_box, new_box, shift)?;
+            Ok(is_same && !has_offsets(old_box) && has_same_code(old_box, new_box))
+        }
     }
 }
 
 /// Returns whether `new_box` of `new` is `old_box` of `old`, except for its offsets, which follow `shift`.
 fn is_box_after<F: Shift>(
+    alloc: Global,
     old: &[u8],
     new: &[u8],
     old_box: &TreeBox,
     new_box: &TreeBox,
     shift: &F,
-) -> bool
-    ensures { IsTrue result → IsBoxAfter (F.after shift.now) old.now new.now old_box.now new_box.now }
+) -> Result<bool, Stop>
+    ensures { IfOk result (λ is. IsTrue is
+        → IsBoxAfter (F.after shift.now) old.now new.now old_box.now new_box.now) }
 {
     if new_box.depth != old_box.depth || new_box.header_length != old_box.header_length {
-        return false;
+        return Ok(false);
     }
     if new_box.is_whole() != old_box.is_whole() {
-        return false;
+        return Ok(false);
     }
-    is_content_after(
+    let is_same = is_content_after(
+        alloc,
         old,
         new,
         old_box,
@@ -307,29 +375,36 @@ fn is_box_after<F: Shift>(
         table_in(old, old_box),
         table_in(new, new_box),
         shift,
-    )
+    )?;
+    Ok(is_same)
 }
 
 /// Returns whether the boxes `are` of `new` are the boxes `were` of `old`, one by one, except for their offsets, which
 /// follow `shift`.
 pub fn are_boxes_after<F: Shift>(
+    alloc: Global,
     old: &[u8],
     new: &[u8],
     were: &[TreeBox],
     are: &[TreeBox],
     shift: &F,
-) -> bool
-    ensures { IsTrue result → AreBoxesAfter (F.after shift.now) old.now new.now were.now are.now }
+) -> Result<bool, Stop>
+    ensures { IfOk result (λ is. IsTrue is → AreBoxesAfter (F.after shift.now) old.now new.now were.now are.now) }
 {
     if were.len() != are.len() {
-        return false;
+        return Ok(false);
     }
     for index in 0..were.len() {
-        if !is_box_after(old, new, &were[index], &are[index], shift) {
-            return false;
+        match is_box_after(alloc, old, new, &were[index], &are[index], shift) {
+            Ok(same) => {
+                if !same {
+                    return Ok(false);
+                }
+            }
+            Err(stop) => return Err(stop),
         }
     }
-    true
+    Ok(true)
 }
 
 /// Returns whether the movie box `bytes` has a size.
@@ -343,12 +418,19 @@ pub fn is_sized(bytes: &[u8]) -> bool
 }
 
 /// Returns whether the movie box `new` with the boxes `are` is `old` with the boxes `were` after the move.
-fn is_after(old: &[u8], new: &[u8], were: &[TreeBox], are: &[TreeBox], shift: Move) -> bool
-    ensures { IsTrue result → were.now ≡ boxes_of old.now → are.now ≡ boxes_of new.now
-        → IsMovieAfter shift old.now new.now }
+fn is_after(
+    alloc: Global,
+    old: &[u8],
+    new: &[u8],
+    were: &[TreeBox],
+    are: &[TreeBox],
+    shift: Move,
+) -> Result<bool, Stop>
+    ensures { were.now ≡ boxes_of old.now → are.now ≡ boxes_of new.now
+        → IfOk result (λ is. IsTrue is → IsMovieAfter shift old.now new.now) }
 {
     if !is_sized(new) {
-        return false;
+        return Ok(false);
     }
     let moved = MovedOffsets {
         shift,
@@ -356,7 +438,7 @@ fn is_after(old: &[u8], new: &[u8], were: &[TreeBox], are: &[TreeBox], shift: Mo
         were,
         are,
     };
-    are_boxes_after(old, new, were, are, &moved)
+    are_boxes_after(alloc, old, new, were, are, &moved)
 }
 
 /// Returns the boxes of `source`.
@@ -379,5 +461,5 @@ pub fn is_movie_after<'a, 'b>(
 {
     let were = boxes_in(alloc, old)?;
     let are = boxes_in(alloc, new)?;
-    Ok(is_after(old, new, were.as_slice(), are.as_slice(), shift))
+    is_after(alloc, old, new, were.as_slice(), are.as_slice(), shift)
 }

@@ -119,7 +119,11 @@ fn push(boxes: &mut Vec<TreeBox>, found: TreeBox) -> Result<(), AllocError>
 }
 
 /// Returns those of `boxes` that no splice replaces.
-fn kept(alloc: Global, boxes: &[TreeBox], splices: &[Splice]) -> Result<Vec<TreeBox>, AllocError>
+pub fn kept(
+    alloc: Global,
+    boxes: &[TreeBox],
+    splices: &[Splice],
+) -> Result<Vec<TreeBox>, AllocError>
     ensures { IfOk result (λ found. found.items ≡ kept splices.now boxes.now) }
 {
     let mut found = Vec::new(alloc);
@@ -132,7 +136,7 @@ fn kept(alloc: Global, boxes: &[TreeBox], splices: &[Splice]) -> Result<Vec<Tree
 }
 
 /// Returns those of `boxes` that begin in none of `spans`.
-fn beside(alloc: Global, boxes: &[TreeBox], spans: &[Span]) -> Result<Vec<TreeBox>, AllocError>
+pub fn beside(alloc: Global, boxes: &[TreeBox], spans: &[Span]) -> Result<Vec<TreeBox>, AllocError>
     ensures { IfOk result (λ found. found.items ≡ beside spans.now boxes.now) }
 {
     let mut found = Vec::new(alloc);
@@ -272,11 +276,12 @@ fn is_edited(
         were: were.as_slice(),
         are: are.as_slice(),
     };
+    let are_kept = are_boxes_after(alloc, old, new, &were, &are, &edits)?;
     Ok(
-        is_sized(new)
+        are_kept
+            && is_sized(new)
             && are_apart(spans)
-            && are_put(new, after, &were, &are, splices, spans)
-            && are_boxes_after(old, new, &were, &are, &edits),
+            && are_put(new, after, &were, &are, splices, spans),
     )
 }
 

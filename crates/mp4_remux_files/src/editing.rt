@@ -1,18 +1,19 @@
 //! The parts of a file that is edited, and whether its edits can be made.
 
-ghost use Rattle.std.specs.Prelude.{◌≡◌, ◌+◌, ◌++◌, ◌∷◌, [], ℕ, ◌&&◌, ◌||◌, false, length, take, drop, filter, not};
+ghost use Rattle.std.specs.Prelude.{◌≡◌, ◌+◌, ◌++◌, ◌∷◌, [], ℕ, ◌&&◌, false, length, take, drop, filter, not};
 ghost use Rattle.std.specs.Prelude.{nat_lt, All, IfOk, IfSome, IsTrue, OnOk};
 ghost use Rattle.std.specs.List.{AllZip, list_any};
-ghost use Rattle.mp4_remux.specs.Splices.{AreInOrder, box_end, is_top, is_uneven};
-ghost use Rattle.mp4_remux_files.specs.EditedFile.{AreTopsOf, IsEditedAlone, IsEditedAround, IsInner};
+ghost use Rattle.mp4_remux.specs.Splices.{AreInOrder, box_end, is_top};
+ghost use Rattle.mp4_remux_files.specs.EditedFile.{AreAllOf, AreTopsOf, IsEditedAlone, IsEditedAround, IsInner};
 ghost use Rattle.mp4_remux_files.specs.EditedFile.{IsUnmisled, IsUntouched, is_beside, is_misled_by, is_sample_box};
-ghost use Rattle.mp4_remux_files.specs.EditedFile.{moves};
 ghost use Rattle.mp4_remux_files.specs.EditedMovie.{IsMovieEdited};
+ghost use Rattle.mp4_remux_files.specs.Shifted.{moves};
 ghost use Rattle.mp4_walk.specs.FileBoxes.{boxes_of};
 ghost use Rattle.mp4_walk.specs.Source.{piece};
 
 use crate::edited::TopEdits;
-use crate::obstacle::{Obstacle, counts_from_front, leads_on, obstacle_in};
+use crate::obstacle::{Obstacle, leads_on, obstacle_in};
+use crate::patches::{followed, moves};
 use crate::place::{first_box, second_movie};
 use crate::rebuild::edited_movie;
 use crate::refusal::{Refusal, Stop};
@@ -190,14 +191,6 @@ fn joined(tops: Vec<Splice>, count: usize, movie: Splice) -> Result<Vec<Splice>,
     Ok(all)
 }
 
-/// Returns whether `splice` moves what is after it, or takes it away, in a file of this length. What is inserted at the
-/// end of the file moves nothing.
-fn moves(splice: &Splice, length: u64) -> bool
-    ensures { result ≡ moves length splice.now }
-{
-    splice.is_uneven() && (splice.removed() > 0 || splice.end < length)
-}
-
 /// Returns whether one of `splices` moves something that is after position `at`, in a file of this length.
 fn moves_after(splices: &[Splice], length: u64, at: u64) -> bool
     ensures { result ≡ list_any (λ s. moves length s && nat_lt at s.begin) splices.now }
@@ -210,79 +203,26 @@ fn moves_after(splices: &[Splice], length: u64, at: u64) -> bool
     false
 }
 
-/// Returns whether one of `splices` moves something in a file of this length.
-fn any_moves(splices: &[Splice], length: u64) -> bool
-    ensures { result ≡ list_any (moves length) splices.now }
+/// Returns whether `found` is a fragment whose samples would not stay as far after it after `splices`, in a file of
+/// this length.
+fn is_misled_by(splices: &[Splice], length: u64, found: &TreeBox) -> bool
+    ensures { result ≡ is_misled_by splices.now length found.now }
 {
-    for splice in splices {
-        if moves(splice, length) {
-            return true;
-        }
-    }
-    false
+    leads_on(found) && moves_after(splices, length, found.position)
 }
 
-/// Returns whether one of `splices` changes the number of bytes.
-fn any_uneven(splices: &[Splice]) -> bool
-    ensures { result ≡ list_any is_uneven splices.now }
-{
-    for splice in splices {
-        if splice.is_uneven() {
-            return true;
-        }
-    }
-    false
-}
-
-/// Returns whether one of `all` moves something in a file of this length, or one of `inner` changes the length of a
-/// box.
-fn move_any(all: &[Splice], inner: &[Splice], length: u64) -> bool
-    ensures { result ≡ list_any (moves length) all.now || list_any is_uneven inner.now }
-{
-    any_moves(all, length) || any_uneven(inner)
-}
-
-/// The edits of a file as the check of its other boxes takes them.
-#[derive(Clone, Copy)]
-struct FileEdits<'a> {
-    /// The edits of the top level, of which one replaces the `moov`.
-    pub all: &'a [Splice],
-    /// The edits in the `moov`.
-    pub inner: &'a [Splice],
-    /// The position at which the `moov` begins.
-    pub begin: u64,
-    /// The position at which the `moov` ends.
-    pub end: u64,
-    /// The length of the file.
-    pub length: u64,
-}
-
-/// Returns whether the offsets of `found`, which are not shifted, would lead elsewhere after the edits.
-fn is_misled_by(edits: FileEdits<'_>, found: &TreeBox) -> bool
-    ensures { result
-        ≡ is_misled_by edits.entry.all.now edits.entry.inner.now edits.entry.begin edits.entry.end edits.entry.length
-        found.now }
-{
-    let is_outside = found.position < edits.begin || edits.end <= found.position;
-    if is_outside && counts_from_front(found) && move_any(edits.all, edits.inner, edits.length) {
-        return true;
-    }
-    leads_on(found) && moves_after(edits.all, edits.length, found.position)
-}
-
-/// Checks that `found` is no obstacle to the edits.
+/// Checks that `found` is no obstacle to `splices`, in a file of this length.
 fn check_box<S: Source>(
     alloc: Global,
     walk: &mut BoxWalk<S>,
     found: &TreeBox,
-    edits: FileEdits<'_>,
+    splices: &[Splice],
+    length: u64,
 ) -> Result<(), Stop>
-    ensures steady { OnOk result
-        (is_misled_by edits.entry.all.now edits.entry.inner.now edits.entry.begin edits.entry.end edits.entry.length
-        found.now ≡ false) }
+    ensures steady { OnOk result (is_misled_by splices.now length found.now ≡ false) }
     ensures walk { walk.new ≡ walk.old }
 {
-    if is_misled_by(edits, found) {
+    if is_misled_by(splices, length, found) {
         return Err(Stop::Refused(Refusal::Obstacle(Obstacle::Offsets {
             code: found.code.unwrap_or(FourCC::from(codes::MOOV)),
             position: found.position,
@@ -290,32 +230,24 @@ fn check_box<S: Source>(
     }
     match obstacle_in(alloc, walk, found) {
         Ok(None) => Ok(()),
-        Ok(Some(Obstacle::Offsets { code, position })) => {
-            if move_any(edits.all, edits.inner, edits.length) {
-                Err(Stop::Refused(Refusal::Obstacle(Obstacle::Offsets { code, position })))
-            } else {
-                Ok(())
-            }
-        }
         Ok(Some(obstacle)) => Err(Stop::Refused(Refusal::Obstacle(obstacle))),
         Err(error) => Err(Stop::from(error)),
     }
 }
 
-/// Checks that none of `boxes` is an obstacle to the edits.
+/// Checks that none of `boxes` is an obstacle to `splices`, in a file of this length.
 fn check_boxes<S: Source>(
     alloc: Global,
     walk: &mut BoxWalk<S>,
     boxes: &[TreeBox],
-    edits: FileEdits<'_>,
+    splices: &[Splice],
+    length: u64,
 ) -> Result<(), Stop>
-    ensures steady { OnOk result
-        (IsUnmisled edits.entry.all.now edits.entry.inner.now edits.entry.begin edits.entry.end edits.entry.length
-        boxes.now) }
+    ensures steady { OnOk result (IsUnmisled splices.now length boxes.now) }
     ensures walk { walk.new ≡ walk.old }
 {
     for found in boxes {
-        match check_box(alloc, walk, found, edits) {
+        match check_box(alloc, walk, found, splices, length) {
             Ok(()) => {}
             Err(stop) => return Err(stop),
         }
@@ -363,19 +295,15 @@ fn changed_movie<S: Source>(
 }
 
 /// Checks that the splices `all` of the top level, which stand for the edits of a file, are in order, and that no box
-/// is an obstacle to them. `inner` are the edits in the `moov`, which has the bytes from `begin` to `end`.
+/// is an obstacle to them.
 fn check_all<S: Source>(
     alloc: Global,
     walk: &mut BoxWalk<S>,
     boxes: &[TreeBox],
     all: &[Splice],
-    inner: &[Splice],
-    begin: u64,
-    end: u64,
 ) -> Result<(), Stop>
     ensures order { OnOk result (IfSome walk.old.bytes (λ B. AreInOrder (length B) all.now)) }
-    ensures steady { OnOk result
-        (IfSome walk.old.bytes (λ B. IsUnmisled all.now inner.now begin end (length B) boxes.now)) }
+    ensures steady { OnOk result (IfSome walk.old.bytes (λ B. IsUnmisled all.now (length B) boxes.now)) }
     ensures walk { walk.new ≡ walk.old }
 {
     let length = walk.length();
@@ -383,14 +311,7 @@ fn check_all<S: Source>(
         Ok(()) => {}
         Err(stop) => return Err(stop),
     }
-    let edits = FileEdits {
-        all,
-        inner,
-        begin,
-        end,
-        length,
-    };
-    check_boxes(alloc, walk, boxes, edits)
+    check_boxes(alloc, walk, boxes, all, length)
 }
 
 /// Returns the splices of the top level that stand for `splices` in a file with these boxes, whose `moov` is `movie`:
@@ -420,7 +341,7 @@ fn edited_around<S: Source>(
     let changed = changed_movie(alloc, walk, movie, &inner, top)?;
     let count = count_before(&tops, begin);
     let all = joined(tops, count, changed)?;
-    check_all(alloc, walk, boxes, &all, &inner, begin, end)?;
+    check_all(alloc, walk, boxes, &all)?;
     Ok(all)
 }
 
@@ -462,7 +383,7 @@ fn edited_alone<S: Source>(
         Ok(()) => {}
         Err(stop) => return Err(stop),
     }
-    match check_all(alloc, walk, boxes, &splices, &[], 0, 0) {
+    match check_all(alloc, walk, boxes, &splices) {
         Ok(()) => Ok(splices),
         Err(stop) => Err(stop),
     }
@@ -491,7 +412,24 @@ fn splices_in<S: Source>(
     }
 }
 
-/// Returns the source, its length, and the splices of its top level that stand for `splices`.
+/// Returns the splices that stand for `splices` in a file with these boxes: those of the top level, and those that set
+/// the fields of other boxes after these.
+fn all_in<S: Source>(
+    alloc: Global,
+    walk: &mut BoxWalk<S>,
+    boxes: &[TreeBox],
+    splices: Vec<Splice>,
+) -> Result<Vec<Splice>, Stop>
+    ensures edited { IfSome walk.old.bytes (λ B. boxes.now ≡ boxes_of B
+        → IfOk result (λ all. AreAllOf B splices.items all.items)) }
+    ensures walk { walk.new ≡ walk.old }
+{
+    let tops = splices_in(alloc, walk, boxes, splices)?;
+    let all = followed(alloc, walk, boxes, tops)?;
+    Ok(all)
+}
+
+/// Returns the source, its length, and the splices that stand for `splices`.
 pub fn edited<S: Source>(
     alloc: Global,
     source: S,
@@ -500,11 +438,11 @@ pub fn edited<S: Source>(
     ensures source { IfOk result (λ r. S.all r.0 ≡ S.all source) }
     ensures length { IfOk result (λ r. IfSome (S.all source) (λ B. r.1 ≡ length B)) }
     ensures splices { IfOk result
-        (λ r. IfSome (S.all source) (λ B. AreTopsOf B splices.items r.2.items)) }
+        (λ r. IfSome (S.all source) (λ B. AreAllOf B splices.items r.2.items)) }
 {
     let movie = Movie::open(alloc, source)?;
     let (mut walk, boxes) = movie.into_parts();
     let length = walk.length();
-    let all = splices_in(alloc, &mut walk, &boxes, splices)?;
+    let all = all_in(alloc, &mut walk, &boxes, splices)?;
     Ok((walk.into_source(), length, all))
 }

@@ -40,8 +40,7 @@ fn plan_moved<S: Source, T: Source>(
     ensures file { IfOk result (λ p. IfSome (S.all source) (λ B. T.all again ≡ Some B → size ≡ length B
         → IsMove (boxes_of B) (length B) shift → StartsFile B (Some shift) (spelled B p.plan.value))) }
 {
-    let mut source = source;
-    let plan = plan_move(alloc, &mut source, size, shift)?;
+    let (source, plan) = plan_move(alloc, source, size, shift)?;
     let planned = check_media(alloc, source, again, plan)?;
     Ok(planned)
 }
@@ -68,10 +67,10 @@ fn plan_placed<S: Source, T: Source>(
 
 /// Plans the file `source` with its `moov` before its media data, and returns the move. If the `moov` is there already,
 /// or the file has no `mdat`, plans a copy of the file and returns `None`. `again` is a second source of the same file,
-/// since the old and the new file are compared. Every track keeps its samples, all bytes outside the `moov` are the
-/// same, and so are those of the `moov` except for its offsets. Needs the memory of two `moov`s, or of the offsets of
-/// one, of the sample tables of one track in both files, and of its largest table. In both cases it also needs the
-/// memory of the boxes of both files.
+/// since the old and the new file are compared. Every track keeps its samples. All other bytes are the same, except for
+/// offsets and other fields that lead to bytes of the file. Needs the memory of two `moov`s, or of the offsets of one,
+/// of the sample tables of one track in both files, and of its largest table. In both cases it also needs the memory of
+/// the boxes of both files.
 pub(crate) fn plan_fast_start<S: Source, T: Source>(
     alloc: Global,
     source: S,

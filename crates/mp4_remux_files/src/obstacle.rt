@@ -1,7 +1,7 @@
 //! The obstacles that keep a movie box from being moved.
 
 ghost use Rattle.std.specs.Prelude.{◌≡◌, false, IfNone, IfOk};
-ghost use Rattle.mp4_remux_files.specs.Places.{counts_from_front, is_misled, leads_on};
+ghost use Rattle.mp4_remux_files.specs.Places.{is_misled, leads_on};
 
 use crate::movement::Move;
 use mp4_frame::{FourCC, codes, u32_at};
@@ -15,8 +15,8 @@ pub enum Obstacle {
     /// No whole box begins at a position.
     #[error("there is no whole box at {0}")]
     NotWhole(u64),
-    /// A box has offsets that are not shifted: they count from the front of the file, or the box is before the `moov`
-    /// and they lead to what is after it.
+    /// A box has offsets that are not shifted: a table in the `moov` that can't be read, or a fragment before the
+    /// `moov`, whose samples are after it.
     #[error("{code} at {position}: its offsets can't be shifted")]
     Offsets {
         /// The code of the box.
@@ -34,9 +34,7 @@ pub enum Obstacle {
     },
 }
 
-/// The flags of a `tfhd` that has a base for its offsets (ISO/IEC 14496-12, 8.8.7).
-const BASE_DATA_OFFSET: u32 = 0x00_0001;
-/// The flags of an entry of `dref` whose media data are in the same file (8.7.2).
+/// The flags of an entry of `dref` whose media data are in the same file (ISO/IEC 14496-12, 8.7.2).
 const SELF_CONTAINED: u32 = 0x00_0001;
 /// The code of a reference to a file by a name (8.7.2).
 const URN: u32 = 0x7572_6e20;
@@ -58,32 +56,18 @@ fn flags_of<S: Source>(alloc: Global, tree: &mut BoxWalk<S>, found: &TreeBox) ->
     Ok(u32_at(&bytes, 0) & 0x00ff_ffff)
 }
 
-/// Returns whether a box with the code of `found`, outside the `moov`, has offsets that count from the front of the
-/// file.
-pub fn counts_from_front(found: &TreeBox) -> bool
-    ensures { result ≡ counts_from_front found.now }
-{
-    found.has_code(FourCC::from(codes::ILOC))
-        || found.has_code(FourCC::from(codes::TFRA))
-        || found.has_code(FourCC::from(codes::SAIO))
-}
-
-/// Returns whether a box with the code of `found` leads to what is after it.
+/// Returns whether `found` is a fragment, which leads to samples after it.
 pub fn leads_on(found: &TreeBox) -> bool
     ensures { result ≡ leads_on found.now }
 {
-    found.has_code(FourCC::from(codes::SIDX)) || found.has_code(FourCC::from(codes::MOOF))
+    found.has_code(FourCC::from(codes::MOOF))
 }
 
-/// Returns whether the offsets of `found`, which are not shifted, would lead elsewhere after the move.
+/// Returns whether `found` is a fragment whose samples would not stay as far after it.
 fn is_misled(shift: Move, found: &TreeBox) -> bool
     ensures { result ≡ is_misled shift found.now }
 {
-    let is_before = found.position < shift.begin;
-    if (is_before || shift.end <= found.position) && counts_from_front(found) {
-        return true;
-    }
-    is_before && leads_on(found)
+    found.position < shift.begin && leads_on(found)
 }
 
 /// Returns whether an entry of `dref` with `code` says by its flags whether the media data are in the same file. The
@@ -107,9 +91,6 @@ pub fn obstacle_in<S: Source>(
     let Some(code) = found.code else {
         return Ok(None);
     };
-    if code == FourCC::from(codes::TFHD) && flags_of(alloc, tree, found)? & BASE_DATA_OFFSET != 0 {
-        return Ok(Some(Obstacle::Offsets { code, position }));
-    }
     if found.context.parent == codes::DREF
         && (!is_file_reference(code.into())
             || flags_of(alloc, tree, found)? & SELF_CONTAINED == 0)

@@ -74,15 +74,14 @@ fn auxiliary_table(bytes: &[u8], content: u64, end: u64) -> Option<OffsetTable>
     table_at(bytes, content.saturating_add(before), end, !is_short)
 }
 
-/// Returns whether a box with the code of `found` has offsets that count from the front of the file, if it is in a
-/// `moov`, or may have such, as a compressed `cmov` does.
+/// Returns whether a box with the code of `found` has a table of offsets that count from the front of the file, if it
+/// is in a `moov`, or may have such, as a compressed `cmov` does.
 pub fn has_offsets(found: &TreeBox) -> bool
     ensures { result ≡ has_offsets found.now }
 {
     found.has_code(FourCC::from(codes::STCO))
         || found.has_code(FourCC::from(codes::CO64))
         || found.has_code(FourCC::from(codes::SAIO))
-        || found.has_code(FourCC::from(codes::ILOC))
         || found.has_code(FourCC::from(codes::CMOV))
 }
 

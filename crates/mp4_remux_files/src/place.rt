@@ -134,7 +134,7 @@ fn place_of<S: Source>(
 }
 
 /// Returns a walk over `source`, and its boxes.
-fn list_boxes<S: Source>(alloc: Global, source: S) -> Result<(BoxWalk<S>, Vec<TreeBox>), Stop>
+pub fn list_boxes<S: Source>(alloc: Global, source: S) -> Result<(BoxWalk<S>, Vec<TreeBox>), Stop>
     ensures bytes { IfOk result (λ file. file.0.bytes ≡ S.all source) }
     ensures boxes { IfSome (S.all source) (λ B. IfOk result (λ file. file.1.items ≡ boxes_of B)) }
 {

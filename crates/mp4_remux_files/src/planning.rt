@@ -1,18 +1,23 @@
 //! The plan of a file whose movie box is moved.
 
 ghost use Rattle.std.specs.Prelude.{◌≡◌, ◌-◌, ◌≤◌, ◌++◌, ℕ, List, length, take, drop, IfOk, IfSome, IsTrue, OnOk};
-ghost use Rattle.mp4_remux_files.specs.Moved.{AddsPart, moved_file};
-ghost use Rattle.mp4_remux_files.specs.FastStarts.{PlansMove, movie_of};
+ghost use Rattle.mp4_remux_files.specs.FastStarts.{AreMoveOf, PlansMove, movie_of};
+ghost use Rattle.mp4_remux_files.specs.Moved.{AddsPart, AreMove};
 ghost use Rattle.mp4_remux.specs.Pieces.{bytes_of, spelled};
-ghost use Rattle.mp4_walk.specs.Source.{IsWindow};
+ghost use Rattle.mp4_remux.specs.Splices.{spliced};
+ghost use Rattle.mp4_walk.specs.FileBoxes.{boxes_of};
+ghost use Rattle.mp4_walk.specs.Source.{IsWindow, piece};
 
 use crate::movement::Move;
+use crate::patches::{add_splice, followed};
+use crate::place::list_boxes;
 use crate::rebuild::moved_movie;
 use crate::refusal::Stop;
 use mp4_io::Failure;
+use mp4_remux::edits::Splice;
 use mp4_remux::pieces::{Piece, Plan, PlanError};
-use mp4_walk::Source;
-use std::alloc::Global;
+use mp4_walk::{BoxWalk, Source, TreeBox};
+use std::alloc::{AllocError, Global};
 
 /// The number of bytes of two movie boxes that are compared at once.
 const PART: usize = 65_536;
@@ -104,41 +109,79 @@ fn push_movie(
     Ok(())
 }
 
-/// Plans a file of length `size` with `made` in place of its movie box `movie`, at the new place.
+/// Adds the bytes of the old file from position `at` up to `splice`, and then its bytes. Parts of these that the old
+/// movie box `movie`, which begins at `begin`, has at the same indexes are ranges of the old file.
+fn push_splice(
+    alloc: Global,
+    plan: &mut Plan,
+    begin: u64,
+    movie: &[u8],
+    at: u64,
+    splice: &Splice,
+) -> Result<(), Stop>
+    ensures { OnOk result ((B : List ℕ) → IsWindow B begin movie.now → spelled B plan.new
+        ≡ spelled B plan.old ++ piece B at (splice.now.begin - at) ++ splice.now.bytes.items) }
+{
+    push(
+        plan,
+        Piece::Old {
+            begin: at,
+            end: splice.begin,
+        },
+    )?;
+    push_movie(alloc, plan, begin, movie, splice.bytes.as_slice())?;
+    Ok(())
+}
+
+/// Plans a file of length `size` after `splices`. Its movie box is `movie`, and begins at `begin`.
 fn plan_parts(
     alloc: Global,
     size: u64,
-    shift: Move,
+    begin: u64,
     movie: &[u8],
-    made: &[u8],
+    splices: Vec<Splice>,
 ) -> Result<Plan, Stop>
-    ensures { IfOk result (λ plan. (B : List ℕ) → size ≡ length B → IsWindow B shift.begin movie.now
-        → spelled B plan ≡ moved_file shift B made.now) }
+    ensures { IfOk result (λ plan. (B : List ℕ) → size ≡ length B → IsWindow B begin movie.now
+        → spelled B plan ≡ spliced B splices.items) }
 {
     let mut plan = Plan::new(alloc);
+    let mut at: u64 = 0;
+    for splice in splices {
+        match push_splice(alloc, &mut plan, begin, movie, at, &splice) {
+            Ok(()) => at = splice.end,
+            Err(stop) => return Err(stop),
+        }
+    }
     push(
         &mut plan,
         Piece::Old {
-            begin: 0,
-            end: shift.insert,
-        },
-    )?;
-    push_movie(alloc, &mut plan, shift.begin, movie, made)?;
-    push(
-        &mut plan,
-        Piece::Old {
-            begin: shift.insert,
-            end: shift.begin,
-        },
-    )?;
-    push(
-        &mut plan,
-        Piece::Old {
-            begin: shift.end,
+            begin: at,
             end: size,
         },
     )?;
     Ok(plan)
+}
+
+/// Returns the splices of the move of a movie box, which is `made` at its new place.
+fn move_splices(alloc: Global, shift: Move, made: Vec<u8>) -> Result<Vec<Splice>, AllocError>
+    ensures { IfOk result (λ ss. AreMove shift made.items ss.items) }
+{
+    let put = Splice {
+        depth: 0,
+        begin: shift.insert,
+        end: shift.insert,
+        bytes: made,
+    };
+    let taken = Splice {
+        depth: 0,
+        begin: shift.begin,
+        end: shift.end,
+        bytes: Vec::new(alloc),
+    };
+    let mut splices = Vec::new(alloc);
+    add_splice(&mut splices, put)?;
+    add_splice(&mut splices, taken)?;
+    Ok(splices)
 }
 
 /// Returns the movie box of a source.
@@ -153,20 +196,53 @@ fn movie_of<S: Source>(alloc: Global, source: &mut S, shift: Move) -> Result<Vec
     Ok(bytes)
 }
 
+/// Returns the splices that move the movie box `movie` of a file, and those that set the fields of other boxes.
+fn splices_of<S: Source>(
+    alloc: Global,
+    walk: &mut BoxWalk<S>,
+    boxes: &[TreeBox],
+    movie: &[u8],
+    shift: Move,
+) -> Result<Vec<Splice>, Stop>
+    ensures moves { IfSome walk.old.bytes (λ B. boxes.now ≡ boxes_of B → movie.now ≡ movie_of shift B
+        → IfOk result (λ all. AreMoveOf B shift all.items)) }
+    ensures walk { walk.new ≡ walk.old }
+{
+    let made = moved_movie(alloc, movie, shift)?;
+    let splices = move_splices(alloc, shift, made)?;
+    let all = followed(alloc, walk, boxes, splices)?;
+    Ok(all)
+}
+
+/// Returns the source with its splices.
+fn all_splices<S: Source>(
+    alloc: Global,
+    source: S,
+    movie: &[u8],
+    shift: Move,
+) -> Result<(S, Vec<Splice>), Stop>
+    ensures source { IfOk result (λ r. S.all r.0 ≡ S.all source) }
+    ensures moves { IfOk result (λ r. IfSome (S.all source)
+        (λ B. movie.now ≡ movie_of shift B → AreMoveOf B shift r.1.items)) }
+{
+    let (mut walk, boxes) = list_boxes(alloc, source)?;
+    let all = splices_of(alloc, &mut walk, &boxes, movie, shift)?;
+    Ok((walk.into_source(), all))
+}
+
 /// Plans a source of length `size` with its movie box moved.
 pub fn plan_move<S: Source>(
     alloc: Global,
-    source: &mut S,
+    source: S,
     size: u64,
     shift: Move,
-) -> Result<Plan, Stop>
-    ensures plan { IfOk result (λ plan. IfSome (S.all source.old) (λ B. size ≡ length B → PlansMove B shift plan)) }
-    ensures keeps { S.all source.new ≡ S.all source.old }
+) -> Result<(S, Plan), Stop>
+    ensures plan { IfOk result (λ r. IfSome (S.all source) (λ B. size ≡ length B → PlansMove B shift r.1)) }
+    ensures source { IfOk result (λ r. S.all r.0 ≡ S.all source) }
 {
-    let movie = movie_of(alloc, source, shift)?;
-    let made = moved_movie(alloc, movie.as_slice(), shift)?;
-    match plan_parts(alloc, size, shift, movie.as_slice(), made.as_slice()) {
-        Ok(plan) => Ok(plan),
-        Err(stop) => Err(stop),
-    }
+    let mut source = source;
+    let movie = movie_of(alloc, &mut source, shift)?;
+    let (source, all) = all_splices(alloc, source, movie.as_slice(), shift)?;
+    let plan = plan_parts(alloc, size, shift.begin, movie.as_slice(), all)?;
+    Ok((source, plan))
 }

@@ -7,11 +7,15 @@ ghost use Rattle.mp4_remux_files.specs.Movie.{IsMovieAfter};
 
 use crate::around::Around;
 use crate::compare::{boxes_in, is_movie_after, is_unread, own_of};
-use crate::edited::{Span, TopEdits, is_movie_edited};
+use crate::edited::{EditedOffsets, Span, TopEdits, beside, is_movie_edited, kept};
+use crate::items::places;
 use crate::movement::Move;
+use crate::numbers::NoFields;
 use crate::obstacle::Obstacle;
-use crate::offsets::{OffsetTable, has_offsets, table_in};
+use crate::offsets::{MovedOffsets, OffsetTable, has_offsets, table_in};
 use crate::refusal::{Refusal, Stop};
+use crate::setting::set;
+use crate::shift::Shift;
 use mp4_frame::{FourCC, codes, u32_at, u64_at};
 use mp4_remux::edits::{Splice, has_byte, place};
 use mp4_walk::TreeBox;
@@ -446,12 +450,152 @@ fn rebuilt(
     copied(alloc, &layout)
 }
 
+/// Returns the bytes of `found` in `movie` that are in no other box.
+fn own_part<'a>(movie: &'a [u8], found: &TreeBox, position: u64) -> Result<&'a [u8], Stop> {
+    match own_of(found) {
+        Some(own) => part(movie, own.begin, own.end, position),
+        None => Err(Stop::Refused(Refusal::Obstacle(Obstacle::NotWhole(position)))),
+    }
+}
+
+/// Returns the own bytes of an `iloc` at `position` of the file after the change `shift`, in a movie box of `count`
+/// boxes. `content` are those before it.
+fn items_after<F: Shift>(
+    alloc: Global,
+    content: &[u8],
+    shift: &F,
+    count: u64,
+    position: u64,
+) -> Result<Vec<u8>, Stop> {
+    if (content.len() as u64 / 4).saturating_mul(count) > MOST_STEPS {
+        return Err(Stop::Refused(Refusal::Steps(position)));
+    }
+    let made = match places(alloc, shift, content) {
+        Ok(fields) => set(alloc, content, fields.as_slice()),
+        Err(fault) => Err(fault),
+    };
+    match made {
+        Ok(bytes) => Ok(bytes),
+        Err(NoFields::Failed(failure)) => Err(Stop::Failed(failure)),
+        Err(NoFields::Unknown) => Err(Stop::Refused(Refusal::Obstacle(Obstacle::Offsets {
+            code: FourCC::from(codes::ILOC),
+            position,
+        }))),
+    }
+}
+
+/// Returns `made` with the places of items that `shift` puts in place of those in `movie`, which begins at `begin`. The
+/// boxes `were` of `movie` are the boxes `are` of `made`.
+fn with_items<F: Shift>(
+    alloc: Global,
+    movie: &[u8],
+    made: &[u8],
+    were: &[TreeBox],
+    are: &[TreeBox],
+    shift: &F,
+    begin: u64,
+) -> Result<Vec<u8>, Stop> {
+    let mut bytes = Vec::with_capacity(alloc, made.len())?;
+    let mut at: u64 = 0;
+    let count = were.len().min(are.len());
+    for index in 0..count {
+        if were[index].has_code(FourCC::from(codes::ILOC)) {
+            let position = begin.saturating_add(were[index].position);
+            let content = own_part(movie, &were[index], position)?;
+            let Some(own) = own_of(&are[index]) else {
+                return Err(Stop::Refused(Refusal::Obstacle(Obstacle::NotWhole(position))));
+            };
+            bytes.extend_from_slice(part(made, at, own.begin, position)?)?;
+            let items = items_after(alloc, content, shift, count as u64, position)?;
+            bytes.extend_from_slice(items.as_slice())?;
+            at = own.end;
+        }
+    }
+    bytes.extend_from_slice(part(made, at, made.len() as u64, begin)?)?;
+    Ok(bytes)
+}
+
+/// Returns whether one of `boxes` has places of items.
+fn have_items(boxes: &[TreeBox]) -> bool {
+    for found in boxes {
+        if found.has_code(FourCC::from(codes::ILOC)) {
+            return true;
+        }
+    }
+    false
+}
+
+/// Returns `made` with the places of items after the move `shift` of `movie`.
+fn with_items_moved(
+    alloc: Global,
+    movie: &[u8],
+    made: Vec<u8>,
+    shift: Move,
+) -> Result<Vec<u8>, Stop> {
+    let were = boxes_in(alloc, movie)?;
+    if !have_items(&were) {
+        return Ok(made);
+    }
+    let are = boxes_in(alloc, made.as_slice())?;
+    let moved = MovedOffsets {
+        shift,
+        new: made.as_slice(),
+        were: were.as_slice(),
+        are: are.as_slice(),
+    };
+    with_items(
+        alloc,
+        movie,
+        made.as_slice(),
+        &were,
+        &are,
+        &moved,
+        shift.begin,
+    )
+}
+
+/// Returns `made` with the places of items after `splices` in `movie` and the edits `top` around it. `spans` are the
+/// ranges of the new bytes.
+fn with_items_edited(
+    alloc: Global,
+    movie: &[u8],
+    made: Vec<u8>,
+    spans: &[Span],
+    splices: &[Splice],
+    top: TopEdits<'_>,
+) -> Result<Vec<u8>, Stop> {
+    let before = boxes_in(alloc, movie)?;
+    if !have_items(&before) {
+        return Ok(made);
+    }
+    let after = boxes_in(alloc, made.as_slice())?;
+    let were = kept(alloc, &before, splices)?;
+    let are = beside(alloc, &after, spans)?;
+    let edited = EditedOffsets {
+        top,
+        splices,
+        new: made.as_slice(),
+        were: were.as_slice(),
+        are: are.as_slice(),
+    };
+    with_items(
+        alloc,
+        movie,
+        made.as_slice(),
+        &were,
+        &are,
+        &edited,
+        top.begin,
+    )
+}
+
 /// Returns the movie box `movie` as it is after the move.
 pub fn moved_movie(alloc: Global, movie: &[u8], shift: Move) -> Result<Vec<u8>, Stop>
     ensures { IfOk result (λ made. IsMovieAfter shift movie.now made.items) }
 {
     let made = rebuilt(alloc, movie, &[], Around::Moved(shift))?;
     let NewMovie { bytes, spans: _ } = made;
+    let bytes = with_items_moved(alloc, movie, bytes, shift)?;
     if is_movie_after(alloc, movie, bytes.as_slice(), shift)? {
         Ok(bytes)
     } else {
@@ -471,6 +615,7 @@ pub fn edited_movie(
 {
     let made = rebuilt(alloc, movie, splices, Around::Edited(top))?;
     let NewMovie { bytes, spans } = made;
+    let bytes = with_items_edited(alloc, movie, bytes, &spans, splices, top)?;
     if is_movie_edited(alloc, movie, bytes.as_slice(), &spans, splices, top)? {
         Ok(bytes)
     } else {

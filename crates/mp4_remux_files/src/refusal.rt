@@ -22,6 +22,15 @@ pub enum Refusal {
     /// A box keeps others from being moved.
     #[error("{0}")]
     Obstacle(Obstacle),
+    /// A field that leads to a byte of the file has a form that isn't known, leads to what is removed or replaced, or
+    /// would not fit.
+    #[error("{path} at {position}: its offsets can't be shifted")]
+    Fields {
+        /// The path of the box.
+        path: String,
+        /// The position of the box.
+        position: u64,
+    },
     /// An offset would not fit.
     #[error("{code} at {position}: an offset would be too large")]
     Overflow {

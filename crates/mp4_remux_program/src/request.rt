@@ -68,7 +68,7 @@ impl From<AllocError> for Misuse {
 /// The end of the help of `faststart`.
 const AFTER_FAST_START: &str =
     "Every sample of every track keeps its bytes, times, flags and description. Every other byte stays
-the same, except for the offsets in the moov, which lead to the same bytes as before, and the sizes of boxes in which a
+the same, except for offsets into the file, which lead to the same bytes as before, and the sizes of boxes in which a
 stco becomes a co64. If an offset can't be kept, the file is refused.
 
 Exit status: 0 written, 1 refused (nothing is written), 2 misuse, 3 failed.";
@@ -79,7 +79,7 @@ const AFTER_EDIT: &str =
 the moov. Paths are those of IN, whatever the order of the options. TRACK is a track_ID.
 
 Every sample of every track keeps its bytes, times, flags and description. Every other box stays the same too, except
-for the named boxes, the sizes of the boxes around them, and the offsets in the moov, which lead to the same bytes as
+for the named boxes, the sizes of the boxes around them, and offsets into the file, which lead to the same bytes as
 before; a stco may become a co64. So no edit may change a sample table (stbl) or a fragment (moof): it is refused.
 
 A dropped track has no samples any more. Its trak and trex are removed, and its traf become free boxes of the same

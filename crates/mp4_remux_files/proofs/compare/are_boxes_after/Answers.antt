@@ -7,7 +7,7 @@ pub loop-index-preserved : goal.loop-index-preserved
 loop-index-preserved g c =
     more_after (IsBoxAfter (g.F.Shift.after c.args.shift.now) c.args.old.now c.args.new.now) c.args.were.now
     c.args.are.now c.loop-index.index _ _ (omega (arith, c.loop-index-test.true))
-    (omega (arith, c.if-were-are.false)) c.loop-index.invariant (c.is_box_after.ensures c.if-not-is_box_after.false)
+    (omega (arith, c.if-were-are.false)) c.loop-index.invariant (c.in-Ok.ensures c.if-not-same.false)
 
 pub returns : goal.returns
 returns g c = λ _.

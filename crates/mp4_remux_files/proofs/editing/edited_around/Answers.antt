@@ -12,4 +12,4 @@ returns-clause-edited g c =
     c.in_ok-changed.ensures.end
     (rw c.as_slice.ensures.value at (rw c.deref.ensures.value at c.in_ok-changed.ensures.edited))
     (rw c.deref-3.ensures.value at c.in_ok-check_all.ensures.order)
-    (rw c.deref-3.ensures.value at (rw c.deref-4.ensures.value at c.in_ok-check_all.ensures.steady))
+    (rw c.deref-3.ensures.value at c.in_ok-check_all.ensures.steady)

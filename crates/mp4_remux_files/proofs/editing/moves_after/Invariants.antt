@@ -2,7 +2,7 @@
 use Rattle.std.proofs.Common.{◌≡◌, drop}
 use Rattle.std.specs.Prelude.{◌&&◌, nat_lt}
 use Rattle.std.specs.List.{list_any}
-use Rattle.mp4_remux_files.specs.EditedFile.{moves}
+use Rattle.mp4_remux_files.specs.Shifted.{moves}
 use Rattle.mp4_remux_files.proofs.editing.moves_after.Given as goal
 
 abbrev pub invariant-loop-splice : goal.invariant-loop-splice

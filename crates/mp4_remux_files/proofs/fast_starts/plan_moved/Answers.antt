@@ -3,6 +3,6 @@ use Rattle.mp4_remux_files.proofs.fast_starts.plan_moved.Goals as goal
 
 pub returns-clause-file : goal.returns-clause-file
 returns-clause-file g c =
-    moved_kept (g.S.Source.all c.args.source) (g.S.Source.all c.plan_move.new.source) (g.T.Source.all c.args.again)
-    c.args.size c.args.shift c.in_ok-plan.plan c.in_ok-planned.planned.plan.value c.plan_move.ensures.keeps
-    c.in_ok-planned.ensures.plan c.in_ok-plan.ensures.plan c.in_ok-planned.ensures.media
+    moved_kept (g.S.Source.all c.args.source) (g.S.Source.all c.in_ok-source.source) (g.T.Source.all c.args.again)
+    c.args.size c.args.shift c.in_ok-source.plan c.in_ok-planned.planned.plan.value c.in_ok-source.ensures.source
+    c.in_ok-planned.ensures.plan c.in_ok-source.ensures.plan c.in_ok-planned.ensures.media

@@ -1,4 +1,4 @@
-use Rattle.mp4_remux_files.proofs.Files.{bytes_are_kept, length_is_kept, movie_is_moved}
+use Rattle.mp4_remux_files.proofs.Files.{bytes_are_kept, length_is_kept, move_is_spliced, movie_is_moved}
 use Rattle.mp4_remux_files.proofs.laws.file_is_kept.Goals as goal
 
 pub returns-clause-bytes : goal.returns-clause-bytes
@@ -9,3 +9,6 @@ returns-clause-length c = length_is_kept
 
 pub returns-clause-movie : goal.returns-clause-movie
 returns-clause-movie c = movie_is_moved
+
+pub returns-clause-splices : goal.returns-clause-splices
+returns-clause-splices c = move_is_spliced
