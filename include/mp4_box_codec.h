@@ -29,7 +29,7 @@
  *  - After MP4_OK all elements are at the front of the array, and the places after them are as they were.
  *  - After MP4_NO_ROOM the array is as it was. The number of elements, and whatever else the function returns, is as
  *    after MP4_OK.
- *  - After any other status all memory of the caller is as it was.
+ *  - After any other status all memory of the caller is as it was, except that MP4_REFUSED leaves a reason.
  *
  * The comment of each function says what it needs beyond that, what it returns, and what it leaves in memory.
  *
@@ -88,10 +88,12 @@ enum {
        codec. */
     MP4_NO_ROOM = 100,
     /* No track has the track_ID. Only mp4_samples and mp4_fragment_samples return this status and those below, except
-       MP4_UNKNOWN_BOX. mp4_fragment_samples returns those that mention a fragment. */
+       MP4_UNKNOWN_BOX and MP4_REFUSED. mp4_fragment_samples returns those that mention a fragment. */
     MP4_NO_TRACK = 101,
     /* Boxes of this type are not read. Only mp4_fields returns this status. */
     MP4_UNKNOWN_BOX = 102,
+    /* There is no such new file, and a text has the reason. Only the functions for new files return this status. */
+    MP4_REFUSED = 103,
     /* The tables of a track disagree: the number of sizes in stsz differs from its number of samples. */
     MP4_SAMPLE_SIZES_DISAGREE = 110,
     /* The first entry of stsc doesn't begin at chunk 1. */
@@ -676,6 +678,72 @@ struct mp4_file_info {
     uint8_t order;         /* MP4_ORDER_UNKNOWN, MP4_MOOV_FIRST or MP4_MOOV_LAST */
 };
 
+/* New files: what mp4remux writes, as pieces. A caller copies them one after the other, so that the library never holds
+   the media data. */
+
+/* A piece of a new file: bytes of the old file, or new bytes. All of them are present. */
+struct mp4_piece {
+    uint64_t position; /* of its first byte, in the old file or in the array of the new bytes */
+    uint64_t length;   /* the number of its bytes */
+    uint8_t is_new;    /* 1 if it is in the array of the new bytes, 0 if it is in the old file */
+};
+
+/* The numbers of elements of three arrays, and what was done. After MP4_REFUSED only `text_bytes` is not 0, and else
+   only that is 0. A number that doesn't belong to the function is 0. */
+struct mp4_new_file {
+    size_t piece_count;
+    size_t new_bytes;
+    size_t text_bytes;   /* of the reason why there is no new file */
+    uint64_t length;     /* of the new file: the sum of the lengths of its pieces */
+    uint64_t fragments;  /* mp4_fragment: that are made; mp4_defragment: that are joined */
+    uint64_t samples;    /* mp4_defragment: in the new tables; mp4_cut: in the part */
+    uint64_t moved_from; /* mp4_faststart: the position of the moov in the old file */
+    uint64_t moved_to;   /* mp4_faststart: its position in the new file; both are 0 if the new file is a copy */
+};
+
+/* The kind of a change. A path is that of mp4_find. A track is that with the track_ID. */
+enum {
+    MP4_CHANGE_REMOVE = 1,     /* removes the box at `path` */
+    MP4_CHANGE_INSERT = 2,     /* inserts the boxes `bytes` before box `number` of those in the box at `path`, counted
+                                  from 0, or after the last one if it is MP4_LAST; the path "/" stands for the file */
+    MP4_CHANGE_REPLACE = 3,    /* replaces the box at `path` by the box `bytes` */
+    MP4_CHANGE_BRANDS = 4,     /* sets the major brand to the first of the codes `bytes`, of four bytes each, and adds
+                                  those that are missing to the compatible brands */
+    MP4_CHANGE_LANGUAGE = 5,   /* sets the language of a track to the three letters `bytes`, such as deu */
+    MP4_CHANGE_ROTATE = 6,     /* turns the pictures of a track clockwise by `value` degrees: 0, 90, 180 or 270 */
+    MP4_CHANGE_ENABLE = 7,     /* enables a track if `value` is 1, and disables it if that is 0 */
+    MP4_CHANGE_NO_TAGS = 8,    /* removes the tags of the movie */
+    MP4_CHANGE_TAG = 9,        /* sets the tag with the code `value`, such as MP4_TITLE, to the text `bytes` as UTF-8 */
+    MP4_CHANGE_COVER = 10,     /* sets the cover to the picture `bytes`, a JPEG or PNG */
+    MP4_CHANGE_DROP_TRACK = 11 /* drops a track, with its samples in fragments */
+};
+
+/* The `number` of an insertion after the last box. */
+#define MP4_LAST ((uint64_t)-1)
+
+/* The code of the tag of a title. */
+#define MP4_TITLE MP4_CODE(0xA9, 'n', 'a', 'm')
+
+/* A change of a file. Its kind says which fields it has; the others are not read. `path` and `bytes` are parts of the
+   array `data`. */
+struct mp4_change {
+    struct mp4_text_part path;
+    struct mp4_text_part bytes;
+    uint64_t number;
+    uint32_t kind; /* MP4_CHANGE_REMOVE to MP4_CHANGE_DROP_TRACK */
+    uint32_t track_id;
+    uint32_t value;
+};
+
+/* The options of mp4_fragment. */
+struct mp4_fragment_options {
+    uint64_t least; /* nanoseconds that each fragment but the last has at least; 0: a video is cut at each sync sample,
+                       and other media every two seconds */
+    uint8_t has_sidx; /* 1 for a sidx before the fragments */
+    uint8_t has_mfra; /* 1 for an mfra after the fragments */
+    uint8_t has_styp; /* 1 for a styp before each fragment, so that it can be a separate file */
+};
+
 /*
  * Files and streams: whole files, and boxes of any type. A fault is MP4_END_OF_INPUT, MP4_INVALID_DATA,
  * MP4_BOX_NOT_FOUND or MP4_OUT_OF_MEMORY.
@@ -816,6 +884,60 @@ uint32_t mp4_version(void);
    Returns: MP4_OK or MP4_NO_ROOM.
    Leaves: the text in `text`, as ASCII characters without a zero after them, and their number in `count`. */
 uint32_t mp4_status_text(uint32_t status, uint8_t *text, size_t places, size_t *count);
+
+/*
+ * New files: these functions plan what mp4remux writes, and copy no media data. docs/REMUX.md says what each keeps.
+ *
+ * Copy the pieces one after the other: those of the old file from the bytes that the call got, and the others from the
+ * new bytes. The reason of a refusal is the line that mp4remux prints, as UTF-8 without a zero after it.
+ */
+
+/* Plans the file with its moov before its media data. Every offset leads to the same byte. If no media data are before
+   the moov, the new file is a copy.
+   Needs: the bytes of a file, `piece_places` places at `pieces`, `byte_places` places at `new_bytes`, and `text_places`
+   places at `text`.
+   Returns: MP4_OK; MP4_REFUSED; MP4_NO_ROOM if one of the three arrays is too short; MP4_OUT_OF_MEMORY.
+   Leaves: the pieces in `pieces` and the new bytes in `new_bytes`, or after MP4_REFUSED the reason in `text`; and the
+   numbers of elements in `file`. */
+uint32_t mp4_faststart(const uint8_t *bytes, size_t length, struct mp4_piece *pieces, size_t piece_places,
+                       uint8_t *new_bytes, size_t byte_places, uint8_t *text, size_t text_places,
+                       struct mp4_new_file *file);
+
+/* Plans the file with some changes. Every sample of every track is kept, except those of tracks that are dropped, and
+   offsets lead to the same bytes. Paths and numbers are those of the file before all changes.
+   Needs: the bytes of a file, `count` elements at `changes`, `data_length` bytes at `data`, and the arrays of
+   mp4_faststart.
+   Returns: the statuses of mp4_faststart; MP4_REFUSED also if a change is none: the reason then begins with its number,
+   as in "change 0: this is not a path".
+   Leaves: what mp4_faststart leaves. */
+uint32_t mp4_edit(const uint8_t *bytes, size_t length, const struct mp4_change *changes, size_t count,
+                  const uint8_t *data, size_t data_length, struct mp4_piece *pieces, size_t piece_places,
+                  uint8_t *new_bytes, size_t byte_places, uint8_t *text, size_t text_places, struct mp4_new_file *file);
+
+/* Plans the file with all samples in fragments, as players of DASH, HLS and Media Source Extensions need them.
+   Needs: the bytes of a file with tables, options, and the arrays of mp4_faststart.
+   Returns: the statuses of mp4_faststart.
+   Leaves: what mp4_faststart leaves. */
+uint32_t mp4_fragment(const uint8_t *bytes, size_t length, const struct mp4_fragment_options *options,
+                      struct mp4_piece *pieces, size_t piece_places, uint8_t *new_bytes, size_t byte_places,
+                      uint8_t *text, size_t text_places, struct mp4_new_file *file);
+
+/* Plans the file with all samples in tables.
+   Needs: the bytes of a file with fragments, and the arrays of mp4_faststart.
+   Returns: the statuses of mp4_faststart.
+   Leaves: what mp4_faststart leaves. */
+uint32_t mp4_defragment(const uint8_t *bytes, size_t length, struct mp4_piece *pieces, size_t piece_places,
+                        uint8_t *new_bytes, size_t byte_places, uint8_t *text, size_t text_places,
+                        struct mp4_new_file *file);
+
+/* Plans the part of a file between two times. It begins with the last sync sample of the first video that is presented
+   at `from` or earlier, and edit lists hide what is presented before `from`.
+   Needs: the bytes of a file, two times of the presentation in nanoseconds, and the arrays of mp4_faststart.
+   Returns: the statuses of mp4_faststart; MP4_REFUSED also if `to` isn't after `from`.
+   Leaves: what mp4_faststart leaves. */
+uint32_t mp4_cut(const uint8_t *bytes, size_t length, uint64_t from, uint64_t to, struct mp4_piece *pieces,
+                 size_t piece_places, uint8_t *new_bytes, size_t byte_places, uint8_t *text, size_t text_places,
+                 struct mp4_new_file *file);
 
 /*
  * Tables, read. The bytes begin with the header of the box, and the box has to be whole. Bytes after the box aren't
@@ -1282,6 +1404,12 @@ MP4_INLINE void mp4_put_number(uint32_t number, uint8_t *bytes) {
         bytes[i] = (uint8_t)(number >> (24 - 8 * i));
 }
 
+/* Returns the bytes of a piece of a new file: in the bytes of the old file, or in the new bytes. */
+MP4_INLINE const uint8_t *mp4_piece_bytes(const struct mp4_piece *piece, const uint8_t *bytes,
+                                          const uint8_t *new_bytes) {
+    return (piece->is_new ? new_bytes : bytes) + piece->position;
+}
+
 /*
  * An array without elements may be NULL: calls use the functions below, which replace NULL by a pointer to memory.
  */
@@ -1345,6 +1473,39 @@ MP4_INLINE uint32_t mp4_call_info(const uint8_t *bytes, size_t length, uint32_t 
                                   struct mp4_file_info *file) {
     return mp4_info(MP4_BYTES(bytes), length, (uint32_t *)mp4_to(brands), brand_places,
                     (struct mp4_track_info *)mp4_to(tracks), track_places, (uint8_t *)mp4_to(text), text_places, file);
+}
+MP4_INLINE uint32_t mp4_call_faststart(const uint8_t *bytes, size_t length, struct mp4_piece *pieces,
+                                       size_t piece_places, uint8_t *new_bytes, size_t byte_places, uint8_t *text,
+                                       size_t text_places, struct mp4_new_file *file) {
+    return mp4_faststart(MP4_BYTES(bytes), length, (struct mp4_piece *)mp4_to(pieces), piece_places,
+                         (uint8_t *)mp4_to(new_bytes), byte_places, (uint8_t *)mp4_to(text), text_places, file);
+}
+MP4_INLINE uint32_t mp4_call_edit(const uint8_t *bytes, size_t length, const struct mp4_change *changes, size_t count,
+                                  const uint8_t *data, size_t data_length, struct mp4_piece *pieces,
+                                  size_t piece_places, uint8_t *new_bytes, size_t byte_places, uint8_t *text,
+                                  size_t text_places, struct mp4_new_file *file) {
+    return mp4_edit(MP4_BYTES(bytes), length, (const struct mp4_change *)mp4_from(changes), count, MP4_BYTES(data),
+                    data_length, (struct mp4_piece *)mp4_to(pieces), piece_places, (uint8_t *)mp4_to(new_bytes),
+                    byte_places, (uint8_t *)mp4_to(text), text_places, file);
+}
+MP4_INLINE uint32_t mp4_call_fragment(const uint8_t *bytes, size_t length, const struct mp4_fragment_options *options,
+                                      struct mp4_piece *pieces, size_t piece_places, uint8_t *new_bytes,
+                                      size_t byte_places, uint8_t *text, size_t text_places,
+                                      struct mp4_new_file *file) {
+    return mp4_fragment(MP4_BYTES(bytes), length, options, (struct mp4_piece *)mp4_to(pieces), piece_places,
+                        (uint8_t *)mp4_to(new_bytes), byte_places, (uint8_t *)mp4_to(text), text_places, file);
+}
+MP4_INLINE uint32_t mp4_call_defragment(const uint8_t *bytes, size_t length, struct mp4_piece *pieces,
+                                        size_t piece_places, uint8_t *new_bytes, size_t byte_places, uint8_t *text,
+                                        size_t text_places, struct mp4_new_file *file) {
+    return mp4_defragment(MP4_BYTES(bytes), length, (struct mp4_piece *)mp4_to(pieces), piece_places,
+                          (uint8_t *)mp4_to(new_bytes), byte_places, (uint8_t *)mp4_to(text), text_places, file);
+}
+MP4_INLINE uint32_t mp4_call_cut(const uint8_t *bytes, size_t length, uint64_t from, uint64_t to,
+                                 struct mp4_piece *pieces, size_t piece_places, uint8_t *new_bytes, size_t byte_places,
+                                 uint8_t *text, size_t text_places, struct mp4_new_file *file) {
+    return mp4_cut(MP4_BYTES(bytes), length, from, to, (struct mp4_piece *)mp4_to(pieces), piece_places,
+                   (uint8_t *)mp4_to(new_bytes), byte_places, (uint8_t *)mp4_to(text), text_places, file);
 }
 MP4_INLINE uint32_t mp4_call_status_text(uint32_t status, uint8_t *text, size_t places, size_t *count) {
     return mp4_status_text(status, (uint8_t *)mp4_to(text), places, count);
@@ -1456,6 +1617,11 @@ MP4_INLINE uint32_t mp4_call_write_stsd(const struct mp4_stsd_box *box, const si
 #define mp4_check_file mp4_call_check_file
 #define mp4_fault_name mp4_call_fault_name
 #define mp4_info mp4_call_info
+#define mp4_faststart mp4_call_faststart
+#define mp4_edit mp4_call_edit
+#define mp4_fragment mp4_call_fragment
+#define mp4_defragment mp4_call_defragment
+#define mp4_cut mp4_call_cut
 #define mp4_status_text mp4_call_status_text
 #define mp4_list mp4_call_list
 #define mp4_normal mp4_call_normal

@@ -18,6 +18,7 @@ HEADER = os.path.join(TOP, "include", "mp4_box_codec.h")
 # The pages: for each what its functions do, and the beginnings of its sections.
 PAGES = {
     "mp4_files": ("read files, faults, tracks, samples and boxes of any type", ["Files and streams"]),
+    "mp4_rewriting": ("plan a new file as pieces of an old one", ["New files"]),
     "mp4_headers": ("read and write boxes of fixed fields", ["Headers, read", "Headers, written"]),
     "mp4_tables": ("read and write tables of entries", ["Tables, read", "Tables, written"]),
     "mp4_entries": ("read and write boxes of strings, references and sample entries",

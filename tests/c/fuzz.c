@@ -413,6 +413,76 @@ static void look_at_faults(const uint8_t *bytes, size_t length) {
     free(text);
 }
 
+/* Plans a new file by one of six calls. */
+static uint32_t plan(int kind, const uint8_t *bytes, size_t length, struct mp4_piece *pieces, size_t places,
+                     uint8_t *made, size_t byte_places, uint8_t *text, size_t text_places, struct mp4_new_file *file) {
+    static const struct mp4_change CHANGES[] = {{{0, 9}, {9, 8}, MP4_LAST, MP4_CHANGE_INSERT, 0, 0},
+                                                {{0, 0}, {0, 0}, 0, MP4_CHANGE_DROP_TRACK, 1, 0}};
+    const uint8_t *data = (const uint8_t *)"moov/trak\0\0\0\x08"
+                                           "free";
+    struct mp4_fragment_options options = {1000000, 1, 1, 1};
+    switch (kind) {
+    case 0:
+        return mp4_faststart(bytes, length, pieces, places, made, byte_places, text, text_places, file);
+    case 1:
+    case 2:
+        return mp4_edit(bytes, length, &CHANGES[kind - 1], 1, data, 17, pieces, places, made, byte_places, text,
+                        text_places, file);
+    case 3:
+        return mp4_fragment(bytes, length, &options, pieces, places, made, byte_places, text, text_places, file);
+    case 4:
+        return mp4_defragment(bytes, length, pieces, places, made, byte_places, text, text_places, file);
+    default:
+        return mp4_cut(bytes, length, 1000, 1000000000, pieces, places, made, byte_places, text, text_places, file);
+    }
+}
+
+/* Checks the pieces of a new file, or the reason why there is none: all arrays are filled or none, and each piece is
+   present. */
+static void look_at_plan(int kind, const uint8_t *bytes, size_t length) {
+    struct mp4_new_file file, again;
+    struct mp4_piece *pieces;
+    uint8_t *rows, *made, *text;
+    size_t size, i;
+    uint64_t sum = 0;
+    uint32_t status = plan(kind, bytes, length, NULL, 0, NULL, 0, NULL, 0, &file), wanted;
+    wanted = file.text_bytes > 0 ? MP4_REFUSED : MP4_OK;
+    if (status != (file.piece_count + file.text_bytes == 0 ? MP4_OK : MP4_NO_ROOM) ||
+        (file.text_bytes > 0 && file.piece_count + file.new_bytes + file.length > 0))
+        fail("a new file", "a status that can't be", bytes, length);
+    size = file.piece_count * sizeof *pieces;
+    rows = block(size + sizeof *pieces);
+    made = block(file.new_bytes + 1);
+    text = block(file.text_bytes + 1);
+    pieces = (struct mp4_piece *)(void *)rows;
+    if ((file.piece_count > 0 && plan(kind, bytes, length, pieces, file.piece_count - 1, made, file.new_bytes, text,
+                                      file.text_bytes, &again) != MP4_NO_ROOM) ||
+        (file.new_bytes > 0 && plan(kind, bytes, length, pieces, file.piece_count, made, file.new_bytes - 1, text,
+                                    file.text_bytes, &again) != MP4_NO_ROOM) ||
+        (file.text_bytes > 0 && plan(kind, bytes, length, pieces, file.piece_count, made, file.new_bytes, text,
+                                     file.text_bytes - 1, &again) != MP4_NO_ROOM) ||
+        !as_they_were(rows, size) || !as_they_were(made, file.new_bytes) || !as_they_were(text, file.text_bytes))
+        fail("a new file", "an array that is too short by one", bytes, length);
+    status = plan(kind, bytes, length, pieces, file.piece_count + 1, made, file.new_bytes + 1, text,
+                  file.text_bytes + 1, &again);
+    if (status != wanted || memcmp(&file, &again, sizeof file) != 0)
+        fail("a new file", "arrays that fit", bytes, length);
+    if (!as_they_were(rows + size, sizeof *pieces) || !as_they_were(made + file.new_bytes, 1) ||
+        !as_they_were(text + file.text_bytes, 1))
+        fail("a new file", "a place after the elements is written", bytes, length);
+    for (i = 0; i < file.piece_count; i++) {
+        size_t present = pieces[i].is_new ? file.new_bytes : length;
+        if (pieces[i].is_new > 1 || pieces[i].position > present || pieces[i].length > present - pieces[i].position)
+            fail("a new file", "a piece that is not present", bytes, length);
+        sum += pieces[i].length;
+    }
+    if (sum != file.length)
+        fail("a new file", "pieces of another length", bytes, length);
+    free(rows);
+    free(made);
+    free(text);
+}
+
 /* Checks what is known of a file: the three arrays are filled or none, and the texts come one after the other. */
 static void look_at_info(const uint8_t *bytes, size_t length) {
     struct mp4_file_info file, again;
@@ -496,6 +566,7 @@ static void look_at(const uint8_t *bytes, size_t length, FILE *out) {
     look_at_sets(bytes, length);
     look_at_faults(bytes, length);
     look_at_info(bytes, length);
+    look_at_plan((int)(length % 6), bytes, length);
 }
 
 int LLVMFuzzerTestOneInput(const uint8_t *bytes, size_t length) {

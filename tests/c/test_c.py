@@ -19,10 +19,11 @@ STRICT = ["-std=c99", "-pedantic", "-Wall", "-Wextra", "-Werror"]
 SANITIZERS = ["-fsanitize=address,undefined", "-fno-sanitize-recover=all"]
 # The caller defines these itself: its functions count and refuse requests.
 WRAPPED = ["-Wl,--wrap=malloc,--wrap=realloc,--wrap=free"]
-CALLERS = ["caller", "samples", "boxes", "writing", "entries", "walk", "fields", "info"]
+CALLERS = ["caller", "samples", "boxes", "writing", "entries", "walk", "fields", "info", "rewriting"]
 # The arguments of callers.
-ARGUMENTS = {"info": [os.path.join(TOP, "tests", "files", "movies")]}
-FUNCTIONS = 74
+MOVIES = [os.path.join(TOP, "tests", "files", "movies")]
+ARGUMENTS = {"info": MOVIES, "rewriting": MOVIES}
+FUNCTIONS = 79
 
 
 def has(*words):
@@ -135,7 +136,7 @@ class Library(Calls, unittest.TestCase):
         self.check("c++", "-x", "c++")
 
     def test_examples_of_the_page(self):
-        for name in ("example", "write", "tree"):
+        for name in ("example", "tree"):
             code = source("tests", "c", f"{name}.c")
             self.assertTrue(f"```c\n{code}```" in source("docs", "C.md"), f"docs/C.md doesn't show tests/c/{name}.c")
 
@@ -157,6 +158,16 @@ class Library(Calls, unittest.TestCase):
         stts = b"\0\0\0\x18stts" + bytes(7) + b"\1\0\0\0\x5a\0\0\3\xe8"
         self.assertEqual(self.succeeds(self.compiled("write")), mdhd + stts)
 
+    def test_title(self):
+        program, path, out = self.compiled("title"), os.path.join(MOVIES[0], "video.mp4"), f"{self.folder}/out"
+        self.succeeds(program, path, out)
+        with open(path, "rb") as before, open(out, "rb") as after:
+            self.assertEqual(after.read().count(b"Blue"), before.read().count(b"Blue") + 1)
+        with open(f"{self.folder}/empty", "wb") as file:
+            file.write(b"")
+        ran = subprocess.run([program, file.name, out], capture_output=True, check=False)
+        self.assertEqual((ran.returncode, ran.stderr), (1, b"there is no moov\n"))
+
     def test_threads(self):
         with open(os.path.join(self.folder, "file"), "wb") as file:
             file.write(stored("plain"))
@@ -165,7 +176,7 @@ class Library(Calls, unittest.TestCase):
         self.assertEqual(said, "threads: 8 threads asked 50 times, and agree\n")
 
     def test_faults_and_tracks(self):
-        program, movies = self.compiled("faults"), ARGUMENTS["info"][0]
+        program, movies = self.compiled("faults"), MOVIES[0]
         said = self.succeeds(program, os.path.join(movies, "fragments.mp4"))
         self.assertEqual(said, b"video, avc1.64000a, 20 samples\naudio, mp4a.40.2, 9 samples\n")
         path = os.path.join(self.folder, "file")

@@ -161,12 +161,17 @@ class Examples(Programs):
                          "track 1: video, avc1.64000d, , 320 x 240, 0.000 s, 10 samples\n")
 
     def test_edit(self):
-        file, plain = stored("plain"), self.path("plain.mp4", stored("plain"))
-        edited = self.writes("edit", plain, "1", "fra")
+        path = os.path.join(TOP, "tests", "files", "movies", "video.mp4")
+        with open(path, "rb") as opened:
+            file = opened.read()
+        edited = self.writes("edit", path, "1", "fra")
         at = file.find(b"mdhd") + 4 + 20
         self.assertEqual(edited, file[:at] + be(2, 6 << 10 | 18 << 5 | 1) + file[at + 2:])
         self.assertIn(", fra, ", self.runs("tracks", self.path("edited.mp4", edited)))
-        self.refuses("track_ID", "edit", plain, "2", "fra", self.path("none"))
+        self.refuses("no track has the track_ID 2", "edit", path, "2", "fra", self.path("none"))
+        self.refuses("change 0: this is not three lower-case letters", "edit", path, "1", "FR", self.path("none"))
+        plain = self.path("plain.mp4", stored("plain"))
+        self.refuses("sample 1 would not be the same", "edit", plain, "1", "fra", self.path("none"))
 
     def test_stream_that_is_muxed(self):
         stream = (b"\0\0\0\1" + SPS + b"\0\0\1" + PPS + b"\0\0\0\1" + MESSAGE + b"\0\0\1" + KEY + b"\0\0\1" + MORE

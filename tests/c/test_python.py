@@ -7,6 +7,8 @@ Settings: COUNT (20,000 damaged boxes, and a hundredth of that in damaged files)
 import builtins
 import concurrent.futures
 import dataclasses
+import decimal
+import fractions
 import importlib.util
 import inspect
 import io
@@ -669,6 +671,92 @@ class Programs(Python):
                                  (source.codec, source.begin, source.timescale, source.language))
         for kind, name in (("v", "video"), ("a", "sound")):
             self.assertEqual(self.decoded(self.path("out.mp4"), "-map", f"0:{kind}"), self.decoded(movie(name)))
+
+
+class NewFiles(Python):
+    """New files from each form of an old one. tests/interfaces/test_rewriting.py compares them with those of
+    mp4remux."""
+
+    def test_sources(self):
+        data, wanted = bytes_of("video"), self.module.faststart(bytes_of("video")).tobytes()
+        with open(movie("video"), "rb") as file, mmap.mmap(file.fileno(), 0, access=mmap.ACCESS_READ) as mapped:
+            for source in (movie("video"), file, mapped, data, bytearray(data), memoryview(data), io.BytesIO(data),
+                           self.module.File(data), self.module.File(movie("video"))):
+                new = self.module.faststart(source)
+                self.assertEqual(new.tobytes(), wanted, source)
+                self.assertEqual(b"".join(new.parts), wanted, source)
+                del new
+
+    def test_writing(self):
+        class Slow(io.RawIOBase):
+            """A file that takes seven bytes at a time."""
+
+            def __init__(self):
+                self.taken = b""
+
+            def writable(self):
+                return True
+
+            def write(self, data):
+                self.taken += bytes(data[:7])
+                return min(len(data), 7)
+
+        new, out = self.module.edit(movie("video"), [self.module.Change.title("Blue")]), Slow()
+        new.write(out)
+        self.assertEqual((out.taken, new.length), (new.tobytes(), len(out.taken)))
+        with open(self.path("out.mp4"), "wb") as file:
+            new.write(file)
+        with open(self.path("out.mp4"), "rb") as file:
+            self.assertEqual(file.read(), out.taken)
+
+    def test_closed_file(self):
+        with self.module.File(movie("video")) as file:
+            new = self.module.faststart(file)
+        self.assertRaises(ValueError, new.tobytes)
+
+    def test_boxes_as_values(self):
+        m, data = self.module, bytes_of("video")
+        header = m.Ftyp(major_brand="isom", minor_version=1, compatible_brands=["iso5", "avc1"])
+        by_value, by_bytes = (m.edit(data, [m.Change.replace("ftyp", it)]).tobytes()
+                              for it in (header, header.write()))
+        self.assertEqual(by_value, by_bytes)
+        self.assertEqual(m.File(by_value)["ftyp"].fields, header)
+        inserted = m.edit(data, [m.Change.insert("/", header, 0)]).tobytes()
+        self.assertEqual(inserted, header.write() + data[:32] + inserted[len(header.write()) + 32:])
+
+    def test_refused_values(self):
+        m, data = self.module, bytes_of("video")
+        change = m.Change
+        for text, made in (
+                ("brands[1] is 'is', not a code of four characters", lambda: change.brands(["isom", "is"])),
+                ("brands is 5, not a list of codes", lambda: change.brands(5)),
+                ("code is 5, not a code of four characters", lambda: change.tag(5, "")),
+                ("text is 5, not a text", lambda: change.title(5)),
+                ("picture is 'x', not bytes", lambda: change.cover("x")),
+                ("boxes is 'x', not bytes", lambda: change.insert("moov", "x")),
+                ("changes[0].path is 5, not a text", lambda: m.edit(data, [change.remove(5)])),
+                ("changes[0].number is -1, not a number", lambda: m.edit(data, [change.insert("/", b"", -1)])),
+                ("changes[1].track_id is 4294967296,", lambda: m.edit(data, [change.no_tags(), change.enable(2**32)])),
+                ("changes[0].value is 1.0, not a number", lambda: m.edit(data, [change.rotate(1, 1.0)])),
+                ("changes[0].row is missing", lambda: m.edit(data, [5])),
+                ("changes is 5, not a list of changes", lambda: m.edit(data, 5)),
+                ("begin is 'x', not a number of seconds", lambda: m.cut(data, "x", 1)),
+                ("end is nan, not a number of seconds", lambda: m.cut(data, 0, float("nan"))),
+                ("begin is -1000000000, not a number", lambda: m.cut(data, -1, 1)),
+                ("seconds is inf, not a number of seconds", lambda: m.fragment(data, seconds=float("inf"))),
+                ("source is 5, not a path", lambda: m.faststart(5))):
+            self.assertEqual(self.refused(text, made).status, m.INVALID_DATA)
+        refused = self.refused("no track has the track_ID 7", m.edit, data, [change.enable(7)])
+        self.assertEqual((type(refused), refused.status, refused.reason, str(refused)),
+                         (m.Refused, m.REFUSED, "no track has the track_ID 7", "no track has the track_ID 7"))
+
+    def test_times(self):
+        m, data = self.module, bytes_of("video")
+        wanted = m.cut(data, 0.5, 1.5).tobytes()
+        for begin, end in ((fractions.Fraction(1, 2), fractions.Fraction(3, 2)),
+                           (decimal.Decimal("0.5"), decimal.Decimal("1.5"))):
+            self.assertEqual(m.cut(data, begin, end).tobytes(), wanted)
+        self.assertEqual(m.calls.cut(data, 5 * 10 ** 8, 15 * 10 ** 8).length, len(wanted))
 
 
 class Places(Python):

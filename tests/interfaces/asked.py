@@ -437,15 +437,17 @@ def python(asked, answer):
 
 @functools.cache
 def callers(folder):
-    """Compiles caller.rs and facts.rs with the crate of bindings/rust into `folder`, and returns the programs."""
+    """Compiles caller.rs, facts.rs and rewriting.rs with the crate of bindings/rust into `folder`, and returns the
+    programs."""
     shutil.copytree(os.path.join(TOP, "bindings", "rust"), os.path.join(folder, "rust"))
     os.makedirs(os.path.join(folder, "rust", "examples"))
-    for name in ("caller.rs", "facts.rs"):
+    names = "caller", "facts", "rewriting"
+    for name in (f"{it}.rs" for it in names):
         shutil.copy(os.path.join(TOP, "tests", "interfaces", name), os.path.join(folder, "rust", "examples"))
     environment = {**os.environ, "MP4_BOX_CODEC_LIB_DIR": library(), "CARGO_TARGET_DIR": os.path.join(folder, "target")}
     words = ["cargo", "build", "--offline", "--quiet", "--examples"]
     subprocess.run(words, cwd=os.path.join(folder, "rust"), env=environment, check=True)
-    return [os.path.join(folder, "target", "debug", "examples", name) for name in ("caller", "facts")]
+    return [os.path.join(folder, "target", "debug", "examples", name) for name in names]
 
 
 def rust(asked, answer):

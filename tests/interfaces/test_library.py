@@ -1,10 +1,11 @@
-"""Calls the library for C, from Python: the texts of its statuses, where the boxes inside a box begin, and the boxes at
-paths. What is expected is by include/mp4_box_codec.h and tests/containers.txt."""
+"""Calls the library for C, from Python: the texts of its statuses, where the boxes inside a box begin, the boxes at
+paths, and new files. What is expected is by include/mp4_box_codec.h and tests/containers.txt."""
 
+import os
 import re
 import unittest
 
-from tests.built import codec, source
+from tests.built import TOP, codec, source
 from tests.files.made import be, box, full, movie, nested, tkhd, track, visual
 from tests.interfaces.answers import Sample, Samples
 from tests.interfaces.movies import cases
@@ -13,10 +14,16 @@ from tests.readers.test_containers import lines
 # Words of the text of each status, which the texts of the others don't have.
 TEXTS = {
     0: "done", 1: "end of input", 2: "invalid data", 3: "box not found", 12: "memory", 100: "too few places",
-    101: "track_ID", 102: "not read", 110: "number of sizes", 111: "stsc begins at another chunk",
-    112: "stsc begins no later", 113: "2^32 chunks", 114: "the chunks hold", 115: "stts has a duration",
-    116: "stss", 117: "too far out",
+    101: "track_ID", 102: "not read", 103: "no such new file",
+    110: "number of sizes", 111: "stsc begins at another chunk", 112: "stsc begins no later", 113: "2^32 chunks",
+    114: "the chunks hold", 115: "stts has a duration", 116: "stss", 117: "too far out",
 }
+
+
+def movie_bytes(name):
+    """Returns the bytes of a stored movie."""
+    with open(os.path.join(TOP, "tests", "files", "movies", f"{name}.mp4"), "rb") as file:
+        return file.read()
 
 
 def number_of(code):
@@ -114,6 +121,34 @@ def test_of(line):
 
 for one in lines():
     setattr(Library, f"test_first_box_in_{one.name()}", test_of(one))
+
+class NewFiles(unittest.TestCase):
+    """New files of stored movies. test_rewriting.py compares them with those of mp4remux."""
+
+    def test_insertion_after_the_last_box(self):
+        file, new = movie_bytes("video"), box(b"free", b"new")
+        self.assertEqual(codec().edit(file, [codec().Change.insert("/", new)]).tobytes(), file + new)
+
+    def test_positions_of_a_moved_movie(self):
+        file = movie_bytes("video")
+        found = codec().calls.faststart(file)
+        self.assertEqual((found.moved_from, found.moved_to), (file.find(b"moov") - 4, file.find(b"mdat") - 4))
+
+    def test_kinds_of_changes(self):
+        file = codec().defragment(movie_bytes("fragments")).tobytes()
+        [first, second] = codec().File(file).tracks
+        left = codec().edit(file, [codec().Change.drop_track(second.id)]).tobytes()
+        self.assertEqual([it.id for it in codec().File(left).tracks], [first.id])
+
+    def test_least_duration_of_fragments(self):
+        file = movie_bytes("video")
+        self.assertEqual([codec().fragment(file, seconds=it).fragments for it in (None, 1.5)], [2, 1])
+
+    def test_counts_of_joined_fragments(self):
+        file = movie_bytes("fragments")
+        found = codec().defragment(file)
+        self.assertEqual((found.fragments, found.samples), (file.count(b"moof"), 29))
+
 
 if __name__ == "__main__":
     unittest.main()

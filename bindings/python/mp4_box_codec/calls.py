@@ -38,12 +38,16 @@ from typing import Any, Callable, Dict, Iterator, List, NamedTuple, Optional, Tu
 from ._library import load
 
 OK, END_OF_INPUT, INVALID_DATA, BOX_NOT_FOUND, OUT_OF_MEMORY, NO_ROOM = 0, 1, 2, 3, 12, 100
-NO_TRACK, UNKNOWN_BOX = 101, 102
+NO_TRACK, UNKNOWN_BOX, REFUSED = 101, 102, 103
 # The severities of a Fault, and the values of `order` of a FileInfo: where the first moov is.
 ERROR, WARNING = 1, 2
 ORDER_UNKNOWN, MOOV_FIRST, MOOV_LAST = range(3)
 # The values of `what` of a Box: the state of a box, or of the place where one should begin.
 LEAF, PARENT, TOO_DEEP, CUT, SMALL, NO_HEADER = range(6)
+# The values of `kind` of a ChangeRow, and the `number` of an insertion after the last box.
+(CHANGE_REMOVE, CHANGE_INSERT, CHANGE_REPLACE, CHANGE_BRANDS, CHANGE_LANGUAGE, CHANGE_ROTATE, CHANGE_ENABLE,
+ CHANGE_NO_TAGS, CHANGE_TAG, CHANGE_COVER, CHANGE_DROP_TRACK) = range(1, 12)
+LAST = 2 ** 64 - 1
 
 u8, u16, u32, u64, size = ctypes.c_uint8, ctypes.c_uint16, ctypes.c_uint32, ctypes.c_uint64, ctypes.c_size_t
 i8, i16, i32, i64 = ctypes.c_int8, ctypes.c_int16, ctypes.c_int32, ctypes.c_int64
@@ -66,6 +70,17 @@ class Mp4Error(ValueError):
     def at(self, position: int, path: str) -> "Mp4Error":
         """Returns this error with the place of a box."""
         return Mp4Error(self.status, self.refused, position=position, path=path)
+
+
+class Refused(Mp4Error):
+    """There is no such new file. `reason` is the line that `mp4remux` prints."""
+
+    def __init__(self, reason: str) -> None:
+        super().__init__(REFUSED, reason)
+        self.reason = reason
+
+    def __str__(self) -> str:
+        return self.reason
 
 
 class _Numbers(NamedTuple):
@@ -336,6 +351,36 @@ class FileInfo(NamedTuple):
     tracks: List[TrackInfo]
 
 
+class Piece(NamedTuple):
+    """A piece of a new file: the position of its first byte, in the old file or in the new bytes, its length, and
+    whether it is in the new bytes."""
+    position: int
+    length: int
+    is_new: bool
+
+
+class NewFile(NamedTuple):
+    """A new file: its pieces, the new bytes, and its length. `fragments` are made or joined, and `samples` are in new
+    tables or in a part. A moov is moved from `moved_from` to `moved_to`; both are 0 if it isn't."""
+    pieces: List[Piece]
+    new_bytes: bytes
+    length: int
+    fragments: int
+    samples: int
+    moved_from: int
+    moved_to: int
+
+
+class ChangeRow(NamedTuple):
+    """A change of a file. The header says which fields each kind has: CHANGE_REMOVE to CHANGE_DROP_TRACK."""
+    kind: int
+    path: str = ""
+    bytes: bytes = b""
+    number: int = LAST
+    track_id: int = 0
+    value: int = 0
+
+
 class SttsRow(NamedTuple):
     """A run of samples with the same duration, in the timescale of the media."""
     sample_count: int
@@ -464,6 +509,11 @@ _TRACK_INFO = _struct("mp4_track_info", kind=_PART, codec=_PART, language=_PART,
                       has_sound=u8)
 _FILE_INFO = _struct("mp4_file_info", brand_count=size, track_count=size, text_bytes=size, length=u64,
                      milliseconds=u64, is_fragmented=u8, has_movie=u8, has_items=u8, order=u8)
+_PIECE = _struct("mp4_piece", position=u64, length=u64, is_new=u8)
+_NEW_FILE = _struct("mp4_new_file", piece_count=size, new_bytes=size, text_bytes=size, length=u64, fragments=u64,
+                    samples=u64, moved_from=u64, moved_to=u64)
+_CHANGE = _struct("mp4_change", path=_PART, bytes=_PART, number=u64, kind=u32, track_id=u32, value=u32)
+_FRAGMENT_OPTIONS = _struct("mp4_fragment_options", least=u64, has_sidx=u8, has_mfra=u8, has_styp=u8)
 # Numbers that are returned as an array, by the letter of their type in an array.
 _ARRAYS = {u8: "B", u32: "I", u64: "Q"}
 
@@ -528,7 +578,7 @@ def _packed(row: Any) -> Struct:
     """Returns how the module `struct` unpacks a struct of the header."""
     text, end = "=", 0
     for field, kind in row._fields_:
-        text += "x" * (getattr(row, field).offset - end) + ("?" if field == "sync" else _LETTER[kind])
+        text += "x" * (getattr(row, field).offset - end) + ("?" if field in ("sync", "is_new") else _LETTER[kind])
         end = calcsize(text)
     return Struct(text + "x" * (ctypes.sizeof(row) - end))
 
@@ -574,6 +624,13 @@ _check_file = _function("mp4_check_file", ctypes.c_void_p, size, ctypes.c_void_p
                         ctypes.c_void_p)
 _info = _function("mp4_info", ctypes.c_void_p, size, ctypes.c_void_p, size, ctypes.c_void_p, size, ctypes.c_void_p,
                   size, ctypes.c_void_p)
+# The three arrays of a new file and its struct, after the arguments of a call.
+_FILLED = (ctypes.c_void_p, size) * 3 + (ctypes.c_void_p,)
+_faststart = _function("mp4_faststart", ctypes.c_void_p, size, *_FILLED)
+_edit = _function("mp4_edit", ctypes.c_void_p, size, ctypes.c_void_p, size, ctypes.c_char_p, size, *_FILLED)
+_fragment = _function("mp4_fragment", ctypes.c_void_p, size, ctypes.POINTER(_FRAGMENT_OPTIONS), *_FILLED)
+_defragment = _function("mp4_defragment", ctypes.c_void_p, size, *_FILLED)
+_cut = _function("mp4_cut", ctypes.c_void_p, size, u64, u64, *_FILLED)
 _fault_name = _function("mp4_fault_name", u32, ctypes.c_char_p, size, ctypes.POINTER(size))
 _status_text = _function("mp4_status_text", u32, ctypes.c_char_p, size, ctypes.POINTER(size))
 
@@ -605,19 +662,21 @@ def _part(text: bytes, part: Any) -> str:
     return text[part.position:part.position + part.length].decode("utf-8", "replace")
 
 
-def _arrays(function: Callable[..., int], data: Any, found: Any, kinds: Dict[str, Any]) -> List[Any]:
+def _arrays(function: Callable[..., int], data: Any, found: Any, kinds: Dict[str, Any], *more: Any) -> List[Any]:
     """Calls a function that fills several arrays and the struct `found`: first for the numbers of elements, and then
-    for the elements. `kinds` has the types of the elements by the members of `found` that count them. Returns the
-    arrays, each of which has one element at least."""
+    for the elements. `kinds` has the types of the elements by the members of `found` that count them. `more` are
+    further arguments, which follow the bytes. Returns the arrays, each of which has one element at least."""
     counts = [0] * len(kinds)
     with _Bytes(data) as (address, length):
         for _ in range(2):
             made = [(kind * max(count, 1))() for kind, count in zip(kinds.values(), counts)]
             given = [it for one, count in zip(made, counts) for it in (ctypes.addressof(one), count)]
-            status = function(address, length, *given, ctypes.addressof(found))
+            status = function(address, length, *more, *given, ctypes.addressof(found))
             if status != NO_ROOM:
                 break
             counts = [getattr(found, it) for it in kinds]
+    if status == REFUSED:
+        raise Refused(bytes(made[-1])[:found.text_bytes].decode("utf-8", "replace"))
     if status != OK:
         raise Mp4Error(status)
     return made
@@ -668,6 +727,72 @@ def info(data: Any) -> FileInfo:
         found.length, found.milliseconds, bool(found.is_fragmented), bool(found.has_movie), bool(found.has_items),
         found.order, _listed((u32 * found.brand_count)(*brands[:found.brand_count]), None, u32),
         [_track_of(it, texts) for it in tracks[:found.track_count]])
+
+
+def _planned(function: Callable[..., int], data: Any, *more: Any) -> NewFile:
+    """Returns the new file that a call plans. `more` are the arguments of the call that follow the bytes."""
+    found = _NEW_FILE()
+    kinds = {"piece_count": _PIECE, "new_bytes": u8, "text_bytes": u8}
+    rows, new, _ = _arrays(function, data, found, kinds, *more)
+    pieces = _listed(rows, Piece, _PIECE)[:found.piece_count]
+    return NewFile(pieces, bytes(new)[:found.new_bytes], found.length, found.fragments, found.samples,
+                   found.moved_from, found.moved_to)
+
+
+def faststart(data: Any) -> NewFile:
+    """Returns the file with its moov before its media data, as `mp4remux faststart` writes it.
+
+    >>> file = bytes.fromhex("00000008 6d646174 00000008 6d6f6f76")
+    >>> faststart(file).pieces
+    [Piece(position=8, length=8, is_new=False), Piece(position=0, length=8, is_new=False)]
+    """
+    return _planned(_faststart, data)
+
+
+def _change(at: int, given: Any, parts: bytearray) -> Any:
+    """Returns a change as a struct, and appends its bytes to `parts`."""
+    made, name = _CHANGE(), f"changes[{at}]"
+    for field in ("number", "kind", "track_id", "value"):
+        number = _number(_field(given, field, name), _ALL[dict(_CHANGE._fields_)[field]], f"{name}.{field}")
+        setattr(made, field, number)
+    texts = {"path": _text(_field(given, "path", name), f"{name}.path"),
+             "bytes": _bytes(_field(given, "bytes", name), f"{name}.bytes")}
+    for field, text in texts.items():
+        setattr(made, field, _PART(len(parts), len(text)))
+        parts += text
+    return made
+
+
+def edit(data: Any, changes: Any) -> NewFile:
+    """Returns the file with some changes, each a ChangeRow, as `mp4remux edit` writes it.
+
+    >>> file = bytes.fromhex("00000008 6d6f6f76 00000008 66726565")
+    >>> edit(file, [ChangeRow(CHANGE_REMOVE, "free")]).pieces
+    [Piece(position=0, length=8, is_new=True)]
+    """
+    parts = bytearray()
+    rows = [_change(at, it, parts) for at, it in enumerate(_copied(changes, "changes", "a list of changes"))]
+    made = (_CHANGE * max(len(rows), 1))(*rows)
+    return _planned(_edit, data, ctypes.addressof(made), len(rows), bytes(parts), len(parts))
+
+
+def fragment(data: Any, least: int = 0, has_sidx: bool = False, has_mfra: bool = False,
+             has_styp: bool = False) -> NewFile:
+    """Returns the file with all samples in fragments, as `mp4remux fragment` writes it. Each fragment but the last has
+    `least` nanoseconds at least. If that is 0, a video is cut at each sync sample, and other media every two
+    seconds."""
+    options = _FRAGMENT_OPTIONS(_number(least, _ALL[u64], "least"), bool(has_sidx), bool(has_mfra), bool(has_styp))
+    return _planned(_fragment, data, options)
+
+
+def defragment(data: Any) -> NewFile:
+    """Returns the file with all samples in tables, as `mp4remux defragment` writes it."""
+    return _planned(_defragment, data)
+
+
+def cut(data: Any, begin: int, end: int) -> NewFile:
+    """Returns the part of the file between two times in nanoseconds, as `mp4remux cut` writes it."""
+    return _planned(_cut, data, _number(begin, _ALL[u64], "begin"), _number(end, _ALL[u64], "end"))
 
 
 def elst(data: Any) -> Table:

@@ -32,7 +32,7 @@ fn library() -> Result<(), Error> {
 }
 
 /// Returns `value` if the status of a call that reads says that it succeeded.
-fn result_of<T>(status: u32, value: T) -> Result<T, Error> {
+pub(crate) fn result_of<T>(status: u32, value: T) -> Result<T, Error> {
     if status == raw::OK {
         Ok(value)
     } else {
@@ -122,11 +122,12 @@ pub(crate) fn filled_by<R: Clone + Default, S: Summary>(
     called(|arrays: &mut Vec<R>, found: &mut S| call(arrays, found), |found| defaults(found.count()))
 }
 
-/// Uses a call twice: first with no arrays, for the numbers of their elements, and then with those of `room`.
-pub(crate) fn called<A: Default, S: Default>(
+/// Uses a call twice: first with no arrays, for the numbers of their elements, and then with those of `room`. Returns
+/// the status of the last call too.
+pub(crate) fn answered<A: Default, S: Default>(
     call: impl Fn(&mut A, &mut S) -> u32,
     room: impl Fn(&S) -> Result<A, Error>,
-) -> Result<(A, S), Error> {
+) -> Result<(u32, A, S), Error> {
     library()?;
     let (mut arrays, mut found) = (A::default(), S::default());
     let mut status = call(&mut arrays, &mut found);
@@ -134,6 +135,15 @@ pub(crate) fn called<A: Default, S: Default>(
         arrays = room(&found)?;
         status = call(&mut arrays, &mut found);
     }
+    Ok((status, arrays, found))
+}
+
+/// Uses a call twice, as `answered` does. Its last status has to be that of a success.
+pub(crate) fn called<A: Default, S: Default>(
+    call: impl Fn(&mut A, &mut S) -> u32,
+    room: impl Fn(&S) -> Result<A, Error>,
+) -> Result<(A, S), Error> {
+    let (status, arrays, found) = answered(call, room)?;
     result_of(status, (arrays, found))
 }
 

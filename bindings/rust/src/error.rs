@@ -120,6 +120,11 @@ pub enum Error {
     },
     /// A box of this type can't be written: a number doesn't fit its field, or fields disagree.
     Unwritable(FourCC),
+    /// There is no such new file.
+    Refused {
+        /// The reason, in the words of `mp4remux`.
+        reason: String,
+    },
     /// No track has this track_ID.
     TrakNotFound(u32),
     /// The text is not a path.
@@ -162,6 +167,7 @@ impl fmt::Display for Error {
             Error::Unwritable(code) => {
                 write!(f, "the box '{code}' can't be written: a number doesn't fit its field, or fields disagree")
             }
+            Error::Refused { reason } => f.write_str(reason),
             Error::TrakNotFound(track_id) => write!(f, "no track has the track_ID {track_id}"),
             Error::InvalidPath => f.write_str("the text is not a path such as moov/trak[1]/mdia"),
             Error::OutOfMemory => f.write_str("out of memory"),
@@ -195,6 +201,7 @@ impl PartialEq for Error {
                 (position, path, fault) == (at, name, why)
             }
             (Error::Unwritable(a), Error::Unwritable(b)) => a == b,
+            (Error::Refused { reason }, Error::Refused { reason: other }) => reason == other,
             (Error::IoError(a), Error::IoError(b)) => a.kind() == b.kind(),
             (Error::TrakNotFound(a), Error::TrakNotFound(b)) => a == b,
             (Error::OtherVersion(a), Error::OtherVersion(b)) | (Error::Other(a), Error::Other(b)) => a == b,

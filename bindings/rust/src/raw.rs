@@ -12,10 +12,24 @@ pub const OUT_OF_MEMORY: u32 = 12;
 pub const NO_ROOM: u32 = 100;
 pub const NO_TRACK: u32 = 101;
 pub const UNKNOWN_BOX: u32 = 102;
+pub const REFUSED: u32 = 103;
 
 pub const WARNING: u32 = 2;
 pub const MOOV_FIRST: u8 = 1;
 pub const MOOV_LAST: u8 = 2;
+
+pub const CHANGE_REMOVE: u32 = 1;
+pub const CHANGE_INSERT: u32 = 2;
+pub const CHANGE_REPLACE: u32 = 3;
+pub const CHANGE_BRANDS: u32 = 4;
+pub const CHANGE_LANGUAGE: u32 = 5;
+pub const CHANGE_ROTATE: u32 = 6;
+pub const CHANGE_ENABLE: u32 = 7;
+pub const CHANGE_NO_TAGS: u32 = 8;
+pub const CHANGE_TAG: u32 = 9;
+pub const CHANGE_COVER: u32 = 10;
+pub const CHANGE_DROP_TRACK: u32 = 11;
+pub const LAST: u64 = u64::MAX;
 
 /// A function that fills an array and a summary.
 pub type Fills<R, S> = unsafe extern "C" fn(*const u8, usize, *mut R, usize, *mut S) -> u32;
@@ -138,6 +152,13 @@ structs! {
         brand_count: usize, track_count: usize, text_bytes: usize, length: u64, milliseconds: u64, is_fragmented: u8,
         has_movie: u8, has_items: u8, order: u8,
     }
+    Piece { position: u64, length: u64, is_new: u8, }
+    NewFile {
+        piece_count: usize, new_bytes: usize, text_bytes: usize, length: u64, fragments: u64, samples: u64,
+        moved_from: u64, moved_to: u64,
+    }
+    Change { path: TextPart, bytes: TextPart, number: u64, kind: u32, track_id: u32, value: u32, }
+    FragmentOptions { least: u64, has_sidx: u8, has_mfra: u8, has_styp: u8, }
 }
 
 /// The state of a walk.
@@ -163,6 +184,22 @@ macro_rules! from_bytes {
         extern "C" {
             $(pub fn $name(bytes: *const u8, length: usize, $($given: $type),*) -> u32;)*
         }
+    };
+}
+
+/// Declares functions that plan a new file.
+macro_rules! plans {
+    ($($name:ident($($given:ident: $type:ty),*);)*) => {
+        from_bytes! { $($name(
+            $($given: $type,)*
+            pieces: *mut Piece,
+            piece_places: usize,
+            new_bytes: *mut u8,
+            byte_places: usize,
+            text: *mut u8,
+            text_places: usize,
+            file: *mut NewFile
+        );)* }
     };
 }
 
@@ -237,6 +274,14 @@ from_bytes! {
         message_data_places: usize,
         fields: *mut Emsg
     );
+}
+
+plans! {
+    mp4_faststart();
+    mp4_edit(changes: *const Change, count: usize, data: *const u8, data_length: usize);
+    mp4_fragment(options: *const FragmentOptions);
+    mp4_defragment();
+    mp4_cut(from: u64, to: u64);
 }
 
 fill! {

@@ -418,6 +418,49 @@ fn several_threads() {
 }
 
 #[test]
+fn new_files() {
+    let free = boxed("free", b"text");
+    let (front, moov) = (boxed("ftyp", b"isom\0\0\0\0"), boxed("moov", b""));
+    let file = [front.clone(), free.clone(), moov.clone()].concat();
+    let new = edit(&file, &[Change::Remove("free")]).unwrap();
+    let pieces = [Piece::Old { position: 0, bytes: &file[..16] }, Piece::New(&moov)];
+    assert_eq!(new.pieces().collect::<Vec<_>>(), pieces);
+    assert_eq!((new.length(), new.to_vec()), (24, Ok([&file[..16], &file[28..]].concat())));
+    assert_eq!((new.fragments(), new.samples(), new.moved()), (0, 0, None));
+
+    let changes = [
+        Change::Insert { path: "/", before: Some(0), boxes: &free },
+        Change::Insert { path: "moov", before: None, boxes: &free },
+    ];
+    let new = edit(&file, &changes).unwrap();
+    let wanted = [free.clone(), file[..28].to_vec(), nested("moov", &[free.clone()])].concat();
+    assert_eq!(new.pieces().next(), Some(Piece::New(&free)));
+    assert_eq!(new.to_vec(), Ok(wanted.clone()));
+    let mut written = Vec::new();
+    assert_eq!(new.write_to(&mut written), Ok(()));
+    assert_eq!(written, wanted);
+
+    let file = [boxed("mdat", b"media"), moov.clone()].concat();
+    let new = faststart(&file).unwrap();
+    assert_eq!((new.to_vec(), new.moved()), (Ok([moov, boxed("mdat", b"media")].concat()), Some((13, 0))));
+    let refused = |found: Result<NewFile<'_>, Error>| match found {
+        Err(Error::Refused { reason }) => reason,
+        found => panic!("{found:?}"),
+    };
+    let (no_options, second) = (FragmentOptions::default(), std::time::Duration::from_secs(1));
+    assert_eq!(refused(faststart(&front)), "there is no moov");
+    assert_eq!(refused(fragment(&file, &no_options)), "no track has samples");
+    assert_eq!(refused(defragment(&file)), "the file is not fragmented");
+    assert_eq!(refused(cut(&front, second, second)), "the part has to end after it begins");
+    assert_eq!(refused(cut(&front, std::time::Duration::ZERO, second)), "there is no moov");
+    assert_eq!(refused(edit(&file, &[Change::NoTags, Change::Remove("moo")])), "change 1: this is not a path");
+    assert_eq!(refused(edit(&file, &[Change::Brands(&[])])), "change 0: these are not codes of four bytes");
+    assert_eq!(refused(edit(&file, &[Change::Enable(7)])), "no track has the track_ID 7");
+    let error = edit(&file, &[Change::Disable(7)]).unwrap_err();
+    assert_eq!((error.to_string().as_str(), error.fault()), ("no track has the track_ID 7", None));
+}
+
+#[test]
 fn what_the_library_is() {
     let numbers: Vec<u32> = env!("CARGO_PKG_VERSION").split('.').map(|it| it.parse().unwrap()).collect();
     assert_eq!(version(), numbers[0] * 1_000_000 + numbers[1] * 1000 + numbers[2]);

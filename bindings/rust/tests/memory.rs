@@ -112,6 +112,11 @@ fn refused_requests() {
     // The rows and the texts of the library, the faults, and a path and a text for each of the two.
     each_refused(7, || check_file(b"\0\0\0\x10moov\0\0\0\x09trac"));
 
+    // The rows of the changes, their data, the pieces and the new bytes; the pieces, and the output.
+    let movie = b"\0\0\0\x08free\0\0\0\x08moov";
+    each_refused(4, || edit(movie, &[Change::Title("Blue")]));
+    each_refused(2, || faststart(movie)?.to_vec());
+
     // A list of 9 boxes grows twice after the first request: its capacities are 4, 8 and 16.
     let file = b"\0\0\0\x08free".repeat(9);
     each_refused(3, || tree(&file));

@@ -13,3 +13,5 @@ pub mod FaultRows
 pub mod FaultRowsLaws
 pub mod TrackInfos
 pub mod FileInfos
+pub mod NewFiles
+pub mod Changes

@@ -5,6 +5,7 @@ ghost use Rattle.mp4_c_boxes.specs.Calls.{CopiesSome};
 ghost use Rattle.mp4_c.specs.declared.about.TheConstants as constants;
 
 use crate::fields::UNKNOWN_BOX;
+use crate::new_file::REFUSED;
 use mp4_c_boxes::status::{
     BOX_NOT_FOUND, CHUNK_COUNT, CHUNK_ORDER, CHUNKS, DURATIONS, END_OF_INPUT, FIRST_CHUNK,
     INVALID_DATA, NO_ROOM, NO_TRACK, OFFSET, OK, OUT_OF_MEMORY, SAMPLE_SIZES, SYNC_SAMPLES,
@@ -34,6 +35,7 @@ fn text_of(status: u32) -> &'static str {
         NO_ROOM => "the array has too few places",
         NO_TRACK => "no track has the track_ID",
         UNKNOWN_BOX => "boxes of this type are not read",
+        REFUSED => "there is no such new file",
         SAMPLE_SIZES => "stsz lists another number of sizes than it counts samples",
         FIRST_CHUNK => "stsc begins at another chunk than 1",
         CHUNK_ORDER => "an entry of stsc begins no later than the one before it",

@@ -6,6 +6,7 @@
 //! - `check`, `list`, `find`, `fields` and `normal` take the bytes of a file or of a box of any type.
 //! - `samples` and `fragment_samples` list the samples of a track.
 //! - `file_faults` lists what `mp4inspect check` finds in a file, and `file_info` what `mp4inspect info` knows of it.
+//! - `rewriting` plans new files as pieces (`new_file`), as `mp4remux` writes them. `change` reads their changes.
 //! - `file_walk` visits the boxes of a file that isn't in memory.
 //! - `about` gives the version and the meaning of a status.
 //! - `flat`, `tables`, `text`, `entries` and `sound` read and write the boxes of `mp4_flat`, `mp4_tables` and so on.
@@ -17,6 +18,7 @@
 #![tactic(auto)]
 
 pub mod about;
+pub mod change;
 pub mod check;
 pub mod entries;
 pub mod fields;
@@ -29,7 +31,9 @@ pub mod found_box;
 pub mod fragment_samples;
 pub mod front_box;
 pub mod list;
+pub mod new_file;
 pub mod normal;
+pub mod rewriting;
 pub mod samples;
 pub mod sound;
 pub mod tables;
