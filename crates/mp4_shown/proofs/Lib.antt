@@ -12,3 +12,5 @@ mod Meanings
 mod NumberSteps
 mod TakenPlaces
 mod TakenCounts
+mod ItemSteps
+mod JoinSteps

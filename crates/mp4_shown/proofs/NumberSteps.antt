@@ -1,7 +1,10 @@
 -- Numbers that are taken one after the other: those already taken, and those that are left.
 use Rattle.std.proofs.Common.{◌≡◌, ℕ, zero, suc, ◌+◌, ◌<◌, ◌≤◌, ◌^◌, List, [], ◌∷◌, ◌++◌, length, map, take, drop, set}
-use Rattle.std.proofs.Common.{get_or, slice_index, Result, Ok, Err, refl, sym, ap, subst, ◌∙◌, append_assoc, arith}
-use Rattle.std.proofs.lemmas.List.{append-nil, drop_more, drop_all, length-set, take_more_set}
+use Rattle.std.proofs.Common.{get_or, slice_index, min, Result, Ok, Err, refl, sym, ap, subst, ◌∙◌, append_assoc, arith}
+use Rattle.std.proofs.Common.{◌⊎◌, ◌≢◌, inl, inr}
+use Rattle.std.proofs.lemmas.Bool.{cases_eq, cases_lt}
+use Rattle.std.proofs.lemmas.List.{append-nil, drop_more, drop_all, get_or-set_other, get_or-set_same, length-set}
+use Rattle.std.proofs.lemmas.List.{take_more_set}
 use Rattle.std.proofs.Math.Seq.{take_all}
 use Rattle.json.specs.Json.{Members}
 use Rattle.mp4_shown.specs.Numbers.{NumberName}
@@ -82,22 +85,24 @@ module _ {A : Type 0} (f : A → NumberName) (xs : List A) (ws : List ℕ) (whol
       (sym (drop_more ws k 0 wide))
       ∙ told
 
-  pub number_refused : (e : Error) (k : ℕ) (ns : List ℕ) (ms : Members) (d : A) → k < length xs → k < length ws
-      → AreTaken k ns ms → RefusedAs e (number_taken (f (get_or xs k d)) (slice_index ws k) ms) → RefusedAs e whole
-  number_refused e k ns ms d named wide told is =
+  pub number_refused : (e : Error) (k w : ℕ) (ns : List ℕ) (ms : Members) (d : A) → k < length xs → k < length ws
+      → AreTaken k ns ms → w ≡ slice_index ws k → RefusedAs e (number_taken (f (get_or xs k d)) w ms)
+      → RefusedAs e whole
+  number_refused e k w ns ms d named wide told width is =
       subst (λ (t : Taking (List ℕ × Members)). RefusedAs e t) (told_by k ns ms d named wide told)
       (refused_first e (number_taken (f (get_or xs k d)) (slice_index ws k) ms)
-      (rest_then (take k ns) (map f (drop (k + 1) xs)) (drop (k + 1) ws)) is)
+      (rest_then (take k ns) (map f (drop (k + 1) xs)) (drop (k + 1) ws))
+      (subst (λ (v : ℕ). RefusedAs e (number_taken (f (get_or xs k d)) v ms)) width is))
 
-  pub number_step : (k n : ℕ) (ns : List ℕ) (ms rest : Members) (d : A) → k < length xs → k < length ws
-      → length ns ≡ length ws → AreTaken k ns ms
-      → number_taken (f (get_or xs k d)) (slice_index ws k) ms ≡ Ok (n, rest) → AreTaken (k + 1) (set ns k n) rest
-  number_step k n ns ms rest d named wide long told is =
+  pub number_step : (k w n : ℕ) (ns : List ℕ) (ms rest : Members) (d : A) → k < length xs → k < length ws
+      → length ns ≡ length ws → AreTaken k ns ms → w ≡ slice_index ws k
+      → number_taken (f (get_or xs k d)) w ms ≡ Ok (n, rest) → AreTaken (k + 1) (set ns k n) rest
+  number_step k w n ns ms rest d named wide long told width is =
       ap (λ (l : List ℕ). continued l (numbers_taken (map f (drop (k + 1) xs)) (drop (k + 1) ws) rest))
       (take_more_set ns k n (omega (arith, long, wide)))
       ∙ moved (take k ns) n (numbers_taken (map f (drop (k + 1) xs)) (drop (k + 1) ws) rest)
       ∙ ap (λ (t : Taking (ℕ × Members)). t >>= rest_then (take k ns) (map f (drop (k + 1) xs)) (drop (k + 1) ws))
-      (sym is)
+      (sym is ∙ ap (λ (v : ℕ). number_taken (f (get_or xs k d)) v ms) width)
       ∙ told_by k ns ms d named wide told
 
   -- all widths have a number
@@ -117,3 +122,33 @@ module _ {A : Type 0} (f : A → NumberName) (xs : List A) (ws : List ℕ) (whol
       ∙ ap (λ (ys : List A). continued (take k ns) (numbers_taken (map f ys) (drop k ws) ms)) (drop_all k xs end)
       ∙ ap (continued (take k ns)) (nameless (drop k ws) ms)
       ∙ ap (λ (l : List ℕ). Ok (l, ms)) (zeros_after k ns ws long zeros)
+
+  end_by : (k : ℕ) (ns : List ℕ) (ms : Members) → min (length xs) (length ws) ≤ k → length ns ≡ length ws
+      → ((i : ℕ) → k ≤ i → slice_index ns i ≡ 0) → AreTaken k ns ms → (k < length xs) ⊎ (length xs ≤ k)
+      → whole ≡ Ok (ns, ms)
+  end_by k ns ms end long zeros told (inl more) = all_taken k ns ms (omega (arith, end, more)) long told
+  end_by k ns ms end long zeros told (inr least) = named_taken k ns ms least long zeros told
+
+  -- no name or no width is left
+  pub none_left : (k : ℕ) (ns : List ℕ) (ms : Members) → min (length xs) (length ws) ≤ k → length ns ≡ length ws
+      → ((i : ℕ) → k ≤ i → slice_index ns i ≡ 0) → AreTaken k ns ms → whole ≡ Ok (ns, ms)
+  none_left k ns ms end long zeros told = end_by k ns ms end long zeros told (cases_lt k (length xs))
+
+-- the numbers after the first k stay 0, and all fit, after one more
+pub zeros_kept : (ns : List ℕ) (k n : ℕ) → ((i : ℕ) → k ≤ i → slice_index ns i ≡ 0) → (i : ℕ) → k + 1 ≤ i
+    → slice_index (set ns k n) i ≡ 0
+zeros_kept ns k n zeros i le =
+    get_or-set_other ns k i n 0 (λ (e : i ≡ k). omega (arith, e, le)) ∙ zeros i (omega (arith, le))
+
+fits_by : (ns ws : List ℕ) (k n : ℕ) → k < length ns → n < 2 ^ slice_index ws k
+    → ((i : ℕ) → slice_index ns i < 2 ^ slice_index ws i) → (i : ℕ) → (i ≡ k) ⊎ (i ≢ k)
+    → slice_index (set ns k n) i < 2 ^ slice_index ws i
+fits_by ns ws k n inside small fits i (inl same) =
+    subst (λ (j : ℕ). slice_index (set ns k n) j < 2 ^ slice_index ws j) (sym same)
+    (omega (arith, get_or-set_same ns k n 0 inside, small))
+fits_by ns ws k n inside small fits i (inr other) = omega (arith, get_or-set_other ns k i n 0 other, fits i)
+
+pub fits_kept : (ns ws : List ℕ) (k n : ℕ) → k < length ns → n < 2 ^ slice_index ws k
+    → ((i : ℕ) → slice_index ns i < 2 ^ slice_index ws i) → (i : ℕ)
+    → slice_index (set ns k n) i < 2 ^ slice_index ws i
+fits_kept ns ws k n inside small fits i = fits_by ns ws k n inside small fits i (cases_eq i k)

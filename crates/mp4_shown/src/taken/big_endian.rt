@@ -26,11 +26,9 @@ pub fn joined(widths: &[u8], numbers: &[u64]) -> u64
     requires whole { bits widths.now ≤ 64 }
     ensures { result ≡ joined widths.now numbers.now }
 {
-    let mut joined: u64 = 0;
+    let mut joined: u128 = 0;
     for k in 0..widths.len().min(numbers.len()) {
-        joined = joined
-            .wrapping_mul(1 << (widths[k] % 64))
-            .wrapping_add(numbers[k]);
+        joined = (joined << widths[k]) + u128::from(numbers[k]);
     }
-    joined
+    joined as u64
 }

@@ -53,16 +53,14 @@ fn exponent_of(text: &[u8]) -> u32
 }
 
 /// Returns `base`^`count`.
+#[tactic(auto, using(crate::proofs::DigitSteps::small_power))]
 fn power(base: u128, count: u32) -> u128
     requires small { base ≤ 10 }
     requires short { count ≤ 37 }
-    ensures { result ≡ base ^ count }
+    ensures value { result ≡ base ^ count }
+    ensures small { result ≤ 10 ^ 37 }
 {
-    let mut power: u128 = 1;
-    for _ in 0..count {
-        power *= base;
-    }
-    power
+    base.pow(count)
 }
 
 /// Returns `number`, or `None` if it has more than 37 digits.
@@ -82,10 +80,7 @@ fn with_zeros(number: u128, count: u32) -> Option<u128>
     if number == 0 {
         return Some(0);
     }
-    if count > 37 {
-        return None;
-    }
-    few_digits(number.checked_mul(power(10, count))?)
+    few_digits(number.checked_mul(10u128.checked_pow(count)?)?)
 }
 
 /// Returns the number of zeros that the exponent of `numeral` appends, or 1000 if they are more.
