@@ -14,3 +14,5 @@ mod TakenPlaces
 mod TakenCounts
 mod ItemSteps
 mod JoinSteps
+mod TakenChecks
+mod LastBytes
