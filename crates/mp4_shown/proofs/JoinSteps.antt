@@ -1,6 +1,6 @@
 -- Numbers that are joined one after the other: those already joined, and those that are left.
 use Rattle.std.proofs.Common.{◌≡◌, ℕ, zero, suc, ◌+◌, ◌*◌, ◌^◌, ◌<◌, ◌≤◌, List, [], ◌∷◌, length, drop, slice_index}
-use Rattle.std.proofs.Common.{refl, sym, ap, subst, ◌∙◌, arith}
+use Rattle.std.proofs.Common.{min, refl, ap, subst, arith}
 use Rattle.std.proofs.lemmas.List.{drop_all, drop_more}
 use Rattle.std.proofs.lemmas.Nat.{mul-le, pow-add, pow_pos}
 use Rattle.mp4_declared.specs.Bits.{NumbersFit, bits, joined}
@@ -45,13 +45,13 @@ next_is ws ns k j wide named are =
     }
 
 -- the number after one more is joined
-pub with_next : (j w n b r whole : ℕ) → j * 2 ^ (w + b) + (n * 2 ^ b + r) ≡ whole
+with_next : (j w n b r whole : ℕ) → j * 2 ^ (w + b) + (n * 2 ^ b + r) ≡ whole
     → (j * 2 ^ w + n) * 2 ^ b + r ≡ whole
 with_next j w n b r whole told =
     let apart : j * 2 ^ (w + b) ≡ j * (2 ^ w * 2 ^ b) = ap (λ (x : ℕ). j * x) (pow-add 2 w b) in
     omega (arith, told, apart)
 
-pub front_small : (x b r whole : ℕ) → x * 2 ^ b + r ≡ whole → x ≤ whole
+front_small : (x b r whole : ℕ) → x * 2 ^ b + r ≡ whole → x ≤ whole
 front_small x b r whole told =
     let some : 1 ≤ 2 ^ b = omega (arith, pow_pos b) in
     let more : x * 1 ≤ x * 2 ^ b = mul-le x 1 x (2 ^ b) (omega arith) some in
@@ -88,11 +88,11 @@ same_length (w ∷ ws) [] fit = absurd fit
 same_length (w ∷ ws) (n ∷ ns) fit = ap suc (same_length ws ns fit.1)
 
 -- all numbers are joined
-pub all_joined : (ws ns : List ℕ) (k j : ℕ) → NumbersFit ws ns → length ws ≤ k → AreJoined ws ns k j
+pub all_joined : (ws ns : List ℕ) (k j : ℕ) → NumbersFit ws ns → min (length ws) (length ns) ≤ k → AreJoined ws ns k j
     → j ≡ joined ws ns
 all_joined ws ns k j fit end are =
     let long = same_length ws ns fit in
-    let none : drop k ws ≡ [] = drop_all k ws end in
+    let none : drop k ws ≡ [] = drop_all k ws (omega (arith, long, end)) in
     let told : j * 2 ^ 0 + joined [] (drop k ns) ≡ joined ws ns =
     subst (λ (l : List ℕ). j * 2 ^ bits l + joined l (drop k ns) ≡ joined ws ns) none are.told in
     omega (arith, told)

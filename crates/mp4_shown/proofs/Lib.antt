@@ -14,5 +14,4 @@ mod TakenPlaces
 mod TakenCounts
 mod ItemSteps
 mod JoinSteps
-mod TakenChecks
 mod LastBytes

@@ -13,12 +13,17 @@ use Rattle.mp4_shown.specs.declared.taken.error.Reason.TheVariants.{Contradictio
 abbrev pub concat : List (List ℕ) → List ℕ
 concat pieces = flat_map (λ piece. piece) pieces
 
+-- the bytes of as many pieces as the count says
+abbrev pub pieces_in : ListName → (Json → Taking (List ℕ)) → List ℕ → ℕ → Members → Taking (List ℕ × Members)
+pieces_in l taken count_name count ms =
+    list_taken l ms >>= λ p. expect (length_of p.0 == count) count_name Contradiction >>= λ _.
+    each_taken taken l.0.now 0 p.0 >>= λ pieces. Ok (concat pieces, p.1)
+
 -- as many pieces as the count says, and the bytes after them
 abbrev pub listed_pieces : ListName → BytesName → (Json → Taking (List ℕ)) → List ℕ → ℕ → Members
     → Taking (List ℕ × Members)
 listed_pieces l rest taken count_name count ms =
-    list_taken l ms >>= λ p. expect (length_of p.0 == count) count_name Contradiction >>= λ _.
-    each_taken taken l.0.now 0 p.0 >>= λ pieces. run_taken rest p.1 >>= λ q. Ok (concat pieces ++ q.0, q.1)
+    pieces_in l taken count_name count ms >>= λ p. run_taken rest p.1 >>= λ q. Ok (p.0 ++ q.0, q.1)
 
 -- pieces, or all bytes if there is no list
 abbrev pub pieces_taken : ListName → BytesName → BytesName → (Json → Taking (List ℕ)) → List ℕ → ℕ → Members

@@ -14,7 +14,7 @@ use Rattle.mp4_shown.specs.declared.list_name.ListAs.{ListAs}
 use Rattle.mp4_shown.specs.TakenLists.{code_entry, code_taken, row_numbers}
 use Rattle.mp4_shown.specs.TakenNumbers.{number_taken, numbers_taken}
 use Rattle.mp4_shown.specs.Object.{take_one, members_in, all_of, object_taken}
-use Rattle.mp4_shown.specs.TakenRuns.{each_taken, items_in, small_numbers_in}
+use Rattle.mp4_shown.specs.TakenRuns.{array_taken, each_taken, small_in}
 use Rattle.mp4_shown.specs.Taking.{Taking, expect, within, ◌>>=◌}
 use Rattle.mp4_shown.specs.declared.taken.error.Reason.{Reason}
 use Rattle.mp4_shown.specs.declared.taken.error.Reason.TheVariants as reasons
@@ -91,12 +91,10 @@ row_taken value l fs ws j = row_numbers l fs ws j >>= λ ns. Ok (value (slice_in
 
 -- an array of codes, and one of numbers of this many bits
 abbrev pub codes_taken : List ℕ → Takes (List FourCC)
-codes_taken name ms =
-    take_one name ms >>= λ p. items_in name p.0 >>= λ js. each_taken code_entry name 0 js >>= λ cs. Ok (cs, p.1)
+codes_taken name ms = array_taken name ms >>= λ p. each_taken code_entry name 0 p.0 >>= λ cs. Ok (cs, p.1)
 
 abbrev pub small_taken : ℕ → List ℕ → Takes (List ℕ)
-small_taken bits name ms =
-    take_one name ms >>= λ p. small_numbers_in bits name p.0 >>= λ ns. Ok (ns, p.1)
+small_taken bits name ms = array_taken name ms >>= λ p. each_taken (small_in bits []) name 0 p.0 >>= λ ns. Ok (ns, p.1)
 
 -- an entry that is made of the members of an object
 abbrev pub entry_made : {A B : Type 0} → (A → B) → Takes A → Json → Taking B

@@ -36,7 +36,7 @@ pub use codes::{WideItem, take_array};
 pub use each::{TakeItem, take_each};
 pub use entries::EntryItem;
 pub use error::{Error, Reason, Refusal, Result, refuse};
-pub use list::{take_count, take_list};
+pub use list::{number_of, take_count, take_list};
 pub use named_by::take_named_by;
 pub use number::{
     NO_CONTEXT, agrees, take_number, take_numbers, take_signed, whole_in, with_suffix,

@@ -71,7 +71,7 @@ fn take_count_of(
 
 /// Returns the number of `items`.
 #[tactic(auto, using(crate::proofs::TakenCounts::items_length))]
-fn number_of(items: &[Value<'_>]) -> usize
+pub fn number_of(items: &[Value<'_>]) -> usize
     ensures { result ≡ length_of (items_view items.now) }
 {
     items.len()

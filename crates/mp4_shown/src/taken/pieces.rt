@@ -6,12 +6,12 @@ ghost use Rattle.json.specs.Value.{value_view};
 ghost use Rattle.mp4_shown.specs.Lists.{seen_list};
 ghost use Rattle.mp4_shown.specs.Runs.{seen_bytes};
 ghost use Rattle.mp4_shown.specs.Object.{left};
-ghost use Rattle.mp4_shown.specs.TakenPieces.{concat, pieces_taken};
+ghost use Rattle.mp4_shown.specs.TakenPieces.{concat, pieces_in, pieces_taken};
 ghost use Rattle.mp4_shown.specs.Taking.{Taking, TakesAs};
 
 use crate::taken::each::{TakeItem, take_each};
 use crate::taken::error::{Reason, Result, refuse};
-use crate::taken::list::take_list;
+use crate::taken::list::{number_of, take_list};
 use crate::taken::object::Object;
 use crate::taken::run::take_bytes;
 use crate::{BytesName, ListName, Pieces};
@@ -54,6 +54,27 @@ fn joined(alloc: Global, pieces: &[Entries<u8>]) -> std::result::Result<Vec<u8>,
     Ok(bytes)
 }
 
+/// Takes the list `name` of pieces out, which have to be `count`. Returns the bytes of all of them. `count_name` is the
+/// name of the count.
+fn take_listed<P: TakePieces>(
+    alloc: Global,
+    name: ListName,
+    pieces: P,
+    count_name: &str,
+    count: u64,
+    object: &mut Object<'_>,
+) -> Result<Vec<u8>>
+    ensures { TakesAs (λ bytes. (bytes.items, left object.new)) result
+        (pieces_in (seen_list name.entry) (P.TakePieces.taken pieces) count_name.now count (left object.old)) }
+{
+    let items = take_list(alloc, name, object)?;
+    if number_of(items.as_slice()) as u64 != count {
+        return Err(refuse(alloc, count_name, Reason::Contradiction));
+    }
+    let taken: Vec<Entries<u8>> = take_each(alloc, name.0, &PieceItem { pieces }, items)?;
+    Ok(joined(alloc, taken.as_slice())?)
+}
+
 /// Takes the pieces of a `PiecesOf` out: those of the list, which have to be `count`, and the bytes after them, or else
 /// all bytes. `count_name` is the name of the count.
 pub fn take_pieces<P: TakePieces>(
@@ -71,12 +92,7 @@ pub fn take_pieces<P: TakePieces>(
     if !object.has(names.0.0) {
         return Ok(take_bytes(alloc, names.1.0, object)?.into());
     }
-    let items = take_list(alloc, names.0, object)?;
-    if items.len() as u64 != count {
-        return Err(refuse(alloc, count_name, Reason::Contradiction));
-    }
-    let taken: Vec<Entries<u8>> = take_each(alloc, names.0.0, &PieceItem { pieces }, items)?;
-    let mut bytes = joined(alloc, taken.as_slice())?;
+    let mut bytes = take_listed(alloc, names.0, pieces, count_name, count, object)?;
     let rest = take_bytes(alloc, names.1.1, object)?;
     bytes.extend_from_slice(rest.as_slice())?;
     Ok(bytes.into())
