@@ -1,7 +1,6 @@
 -- colr: numbers, a profile, or bytes, by the type
-use Rattle.std.specs.Prelude.{ℕ, ◌+◌, ◌-◌, ◌==◌, ◌&&◌, ◌||◌, not, List, [], ◌∷◌, ◌++◌}
-use Rattle.std.specs.Prelude.{if◌then◌else◌, Ok}
-use Rattle.mp4_frame.specs.Bytes.{be_bytes}
+use Rattle.std.specs.Prelude.{ℕ, ◌==◌, ◌&&◌, ◌||◌, not, List, [], ◌∷◌, if◌then◌else◌, Ok, slice_index}
+use Rattle.mp4_frame.specs.Bytes.{bytes_of_fields}
 use Rattle.mp4_frame.specs.FourCC.{number_of}
 use Rattle.mp4_declared.specs.Layout.{OwnEntry}
 use Rattle.mp4_declared.specs.declared.typed.OfType.{OfType}
@@ -20,8 +19,8 @@ abbrev pub hex_taken : List ℕ → Takes (List ℕ)
 hex_taken name ms = take_one name ms >>= λ p. at_path name (hex_in p.0) >>= λ bytes. Ok (bytes, p.1)
 
 abbrev pub nclc_bytes : List ℕ → List ℕ
-nclc_bytes (primaries ∷ transfer ∷ matrix ∷ ns) = be_bytes 2 primaries ++ (be_bytes 2 transfer ++ be_bytes 2 matrix)
-nclc_bytes ns = []
+nclc_bytes ns =
+    bytes_of_fields ((2, slice_index ns 0) ∷ (2, slice_index ns 1) ∷ (2, slice_index ns 2) ∷ [])
 
 -- the first three numbers, of two bytes each
 abbrev pub nclc_taken : Takes (List ℕ)

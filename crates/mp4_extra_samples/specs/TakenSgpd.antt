@@ -1,9 +1,9 @@
 -- sgpd: descriptions by their kind
 use Rattle.std.specs.Prelude.{ℕ, pos, negsuc, ◌+◌, ◌-◌, ◌*◌, ◌^◌, ◌==◌, ◌&&◌, nat_lt}
-use Rattle.std.specs.Prelude.{Bool, false, List, [], ◌∷◌, ◌++◌, Option, Some, None, if◌then◌else◌, Ok, length}
+use Rattle.std.specs.Prelude.{Bool, List, [], ◌∷◌, ◌++◌, Option, Some, None, if◌then◌else◌, Ok, length, slice_index}
 use Rattle.std.specs.Int.{w16, cast_unsigned}
 use Rattle.json.specs.Json.{Json, Members}
-use Rattle.mp4_frame.specs.Bytes.{be_bytes}
+use Rattle.mp4_frame.specs.Bytes.{be_bytes, bytes_of_fields}
 use Rattle.mp4_frame.specs.declared.four_cc.FourCC.{FourCC}
 use Rattle.mp4_extra_samples.specs.ShownGroups.{kind_in, usual_size}
 use Rattle.mp4_extra_samples.specs.declared.sgpd.Descriptions.{Descriptions}
@@ -23,35 +23,44 @@ use Rattle.mp4_shown.specs.declared.taken.error.Reason.TheVariants as reasons
 
 -- a bit, and the seven bits after it
 abbrev pub bit_byte : List ℕ → List ℕ
-bit_byte (bit ∷ rest ∷ ns) = (bit * 128 + rest) ∷ []
-bit_byte ns = []
+bit_byte ns = be_bytes 1 (slice_index ns 0 * 128 + slice_index ns 1)
 
 abbrev pub bit_taken : List NumberName → Takes (List ℕ)
 bit_taken fs ms = map_taken bit_byte (numbers_taken fs (1 ∷ 7 ∷ []) ms)
 
+-- the widths of the numbers of encryption, and their bytes
+abbrev pub encryption_widths : List ℕ
+encryption_widths = 8 ∷ 4 ∷ 4 ∷ 8 ∷ 8 ∷ []
+
 abbrev pub encryption_bytes : List ℕ → List ℕ
-encryption_bytes (reserved ∷ crypt ∷ skip ∷ protected ∷ size ∷ ns) =
-    reserved ∷ (crypt * 16 + skip) ∷ protected ∷ size ∷ []
-encryption_bytes ns = []
+encryption_bytes ns =
+    bytes_of_fields ((1, slice_index ns 0) ∷ (1, slice_index ns 1 * 16 + slice_index ns 2) ∷ (1, slice_index ns 3)
+    ∷ (1, slice_index ns 4) ∷ [])
 
 -- all samples of a group have one vector
 abbrev pub has_constant : List ℕ → Bool
-has_constant (reserved ∷ blocks ∷ protected ∷ size ∷ bytes) = (protected == 1) && (size == 0)
-has_constant bytes = false
+has_constant ns = (slice_index ns 3 == 1) && (slice_index ns 4 == 0)
 
-abbrev pub constant_taken : Bool → Takes (List ℕ)
-constant_taken is_there ms = if is_there then run_taken sgpd.CONSTANT_IV ms else Ok ([], ms)
+abbrev pub constant_taken : Bool → List ℕ → Takes (List ℕ)
+constant_taken is_there bytes ms =
+    if is_there then (run_taken sgpd.CONSTANT_IV ms >>= λ p. Ok (bytes ++ p.0, p.1)) else Ok (bytes, ms)
+
+abbrev pub key_taken : Takes (List ℕ)
+key_taken ms = run_if sgpd.KID (λ key. length key == 16) reasons.WrongLength ms
 
 abbrev pub encryption_taken : Takes (List ℕ)
 encryption_taken ms =
-    map_taken encryption_bytes (numbers_taken sgpd.ENCRYPTION.now (8 ∷ 4 ∷ 4 ∷ 8 ∷ 8 ∷ []) ms) >>= λ p.
-    run_if sgpd.KID (λ kid. length kid == 16) reasons.WrongLength p.1 >>= λ q.
-    constant_taken (has_constant p.0) q.1 >>= λ r. Ok (p.0 ++ (q.0 ++ r.0), r.1)
+    numbers_taken sgpd.ENCRYPTION.now encryption_widths ms >>= λ p. key_taken p.1 >>= λ q.
+    constant_taken (has_constant p.0) (encryption_bytes p.0 ++ q.0) q.1
 
-abbrev pub kind_taken : GroupKind → Takes (List ℕ)
-kind_taken kinds.Roll ms =
+-- the distance of a roll, in two bytes
+abbrev pub roll_taken : Takes (List ℕ)
+roll_taken ms =
     map_taken (λ z. be_bytes 2 (cast_unsigned w16 z))
     (signed_taken sgpd.ROLL_DISTANCE (negsuc (2 ^ 15 - 1)) (pos (2 ^ 15 - 1)) ms)
+
+abbrev pub kind_taken : GroupKind → Takes (List ℕ)
+kind_taken kinds.Roll ms = roll_taken ms
 kind_taken kinds.RandomAccess ms = bit_taken sgpd.LEADING.now ms
 kind_taken kinds.Level ms = bit_taken sgpd.LEVEL.now ms
 kind_taken kinds.Encryption ms = encryption_taken ms
@@ -67,13 +76,18 @@ counted_description bytes ms =
     expect (nat_lt (length bytes) (2 ^ 32)) [] reasons.WrongLength >>= λ _.
     Ok (be_bytes 4 (length bytes) ++ bytes, rest)
 
+-- a description of n bytes
+abbrev pub sized_bytes : ℕ → List ℕ → Taking (List ℕ)
+sized_bytes n bytes = expect (length bytes == n) [] reasons.WrongLength >>= λ _. Ok bytes
+
+abbrev pub kept_with : Members → Taking (List ℕ) → Taking (List ℕ × Members)
+kept_with ms taking = taking >>= λ bytes. Ok (bytes, ms)
+
 -- a description, after its length if each has its own
 abbrev pub sized_description : GroupKind → Option ℕ → List ℕ → Members → Taking (List ℕ × Members)
-sized_description kind None bytes ms =
-    expect (usual_size kind bytes == length bytes) [] reasons.WrongLength >>= λ _. Ok (bytes, ms)
+sized_description kind None bytes ms = kept_with ms (sized_bytes (usual_size kind bytes) bytes)
 sized_description kind (Some n) bytes ms =
-    if n == 0 then counted_description bytes ms
-    else (expect (length bytes == n) [] reasons.WrongLength >>= λ _. Ok (bytes, ms))
+    if n == 0 then counted_description bytes ms else kept_with ms (sized_bytes n bytes)
 
 abbrev pub description_members : Descriptions → Takes (List ℕ)
 description_members d ms =

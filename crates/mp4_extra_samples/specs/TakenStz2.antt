@@ -6,8 +6,8 @@ use Rattle.mp4_extra_samples.specs.declared.stz2.Stz2.{Stz2}
 use Rattle.mp4_extra_samples.specs.declared.stz2.TheConstants as stz2
 use Rattle.mp4_shown.specs.TakenLists.{length_of}
 use Rattle.mp4_shown.specs.TakenNumbers.{number_taken}
-use Rattle.mp4_shown.specs.Object.{take_one, has}
-use Rattle.mp4_shown.specs.TakenRuns.{each_taken, items_in, run_taken, small_in}
+use Rattle.mp4_shown.specs.Object.{has}
+use Rattle.mp4_shown.specs.TakenRuns.{array_taken, each_taken, run_taken, small_in}
 use Rattle.mp4_shown.specs.TakenShapes.{Takes}
 use Rattle.mp4_shown.specs.Taking.{expect, ◌>>=◌}
 use Rattle.mp4_shown.specs.declared.taken.error.Reason.TheVariants as reasons
@@ -28,15 +28,26 @@ sizes_of bits padding ns = if bits == 4 then halves padding ns else if bits == 8
 abbrev pub may_pad : ℕ → ℕ → ℕ → Bool
 may_pad bits count padding = (padding == 0) || ((bits == 4) && (count % 2 == 1))
 
+abbrev pub is_known : ℕ → Bool
+is_known bits = (bits == 4) || ((bits == 8) || (bits == 16))
+
+-- `count` sizes
+abbrev pub size_numbers : ℕ → ℕ → Takes (List ℕ)
+size_numbers bits count ms =
+    array_taken stz2.NAMES.now.1.1.1.1.0.now ms >>= λ p.
+    expect (length_of p.0 == count) stz2.NAMES.now.1.1.1.0.0.now reasons.Contradiction >>= λ _.
+    expect (is_known bits) stz2.NAMES.now.1.1.0.0.now reasons.OutOfRange >>= λ _.
+    each_taken (small_in bits []) stz2.NAMES.now.1.1.1.1.0.now 0 p.0 >>= λ ns. Ok (ns, p.1)
+
+abbrev pub padding_taken : ℕ → ℕ → Takes ℕ
+padding_taken bits count ms =
+    number_taken stz2.NAMES.now.1.1.1.1.1.0 4 ms >>= λ p.
+    expect (may_pad bits count p.0) stz2.NAMES.now.1.1.1.1.1.0.0.now reasons.OutOfRange >>= λ _. Ok p
+
 abbrev pub sizes_taken : ℕ → ℕ → Takes (List ℕ)
 sizes_taken bits count ms =
-    take_one stz2.NAMES.now.1.1.1.1.0.now ms >>= λ p. items_in stz2.NAMES.now.1.1.1.1.0.now p.0 >>= λ js.
-    expect (length_of js == count) stz2.NAMES.now.1.1.1.0.0.now reasons.Contradiction >>= λ _.
-    expect ((bits == 4) || ((bits == 8) || (bits == 16))) stz2.NAMES.now.1.1.0.0.now reasons.OutOfRange >>= λ _.
-    each_taken (small_in bits []) stz2.NAMES.now.1.1.1.1.0.now 0 js >>= λ ns.
-    number_taken stz2.NAMES.now.1.1.1.1.1.0 4 p.1 >>= λ q.
-    expect (may_pad bits count q.0) stz2.NAMES.now.1.1.1.1.1.0.0.now reasons.OutOfRange >>= λ _.
-    run_taken stz2.NAMES.now.1.1.1.1.1.1.1 q.1 >>= λ r. Ok (sizes_of bits q.0 ns ++ r.0, r.1)
+    size_numbers bits count ms >>= λ p. padding_taken bits count p.1 >>= λ q.
+    run_taken stz2.NAMES.now.1.1.1.1.1.1.1 q.1 >>= λ r. Ok (sizes_of bits q.0 p.0 ++ r.0, r.1)
 
 abbrev pub entries_or_bytes : ℕ → ℕ → Takes (List ℕ)
 entries_or_bytes bits count ms =

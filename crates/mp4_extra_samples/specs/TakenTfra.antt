@@ -1,8 +1,8 @@
 -- tfra: numbers of these widths in bytes
 use Rattle.std.specs.Prelude.{ℕ, ◌+◌, ◌-◌, ◌*◌}
-use Rattle.std.specs.Prelude.{List, [], ◌∷◌, ◌++◌, Ok, map}
+use Rattle.std.specs.Prelude.{List, [], ◌∷◌, Ok, map, slice_index}
 use Rattle.json.specs.Json.{Json}
-use Rattle.mp4_frame.specs.Bytes.{be_bytes}
+use Rattle.mp4_frame.specs.Bytes.{bytes_of_fields}
 use Rattle.mp4_declared.specs.Shape.{time_width}
 use Rattle.mp4_extra_samples.specs.ShownAccesses.{width_of}
 use Rattle.mp4_extra_samples.specs.declared.tfra.Accesses.{Accesses}
@@ -21,14 +21,16 @@ access_widths a =
     ∷ width_of a.lengths.length_size_of_trun_num ∷ width_of a.lengths.length_size_of_sample_num ∷ []
 
 -- the bytes of numbers of these widths, one after the other
-abbrev pub bytes_of_widths : List ℕ → List ℕ → List ℕ
-bytes_of_widths (w ∷ ws) (n ∷ ns) = be_bytes w n ++ bytes_of_widths ws ns
-bytes_of_widths ws ns = []
+abbrev pub access_bytes : Accesses → List ℕ → List ℕ
+access_bytes a ns =
+    bytes_of_fields ((time_width a.version, slice_index ns 0) ∷ (time_width a.version, slice_index ns 1)
+    ∷ (width_of a.lengths.length_size_of_traf_num, slice_index ns 2)
+    ∷ (width_of a.lengths.length_size_of_trun_num, slice_index ns 3)
+    ∷ (width_of a.lengths.length_size_of_sample_num, slice_index ns 4) ∷ [])
 
 abbrev pub access_members : Accesses → Takes (List ℕ)
 access_members a ms =
-    map_taken (bytes_of_widths (access_widths a))
-    (numbers_taken tfra.ACCESS.now (map (λ w. 8 * w) (access_widths a)) ms)
+    map_taken (access_bytes a) (numbers_taken tfra.ACCESS.now (map (λ w. 8 * w) (access_widths a)) ms)
 
 abbrev pub access_taken : Accesses → Json → Taking (List ℕ)
 access_taken a j = object_taken (access_members a) j

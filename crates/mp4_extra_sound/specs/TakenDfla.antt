@@ -1,8 +1,8 @@
 -- dfLa: a STREAMINFO (RFC 9639, 8.2), or bytes
 use Rattle.std.specs.Prelude.{ℕ, ◌+◌, ◌-◌, ◌*◌, ◌^◌, ◌==◌, ◌&&◌, nat_le, nat_lt, not, List, [], ◌∷◌, ◌++◌}
-use Rattle.std.specs.Prelude.{if◌then◌else◌, Ok, codes, length}
+use Rattle.std.specs.Prelude.{if◌then◌else◌, Ok, codes, length, slice_index}
 use Rattle.json.specs.Json.{Json}
-use Rattle.mp4_frame.specs.Bytes.{be_bytes}
+use Rattle.mp4_frame.specs.Bytes.{bytes_of_fields}
 use Rattle.mp4_declared.specs.Layout.{OwnEntry}
 use Rattle.mp4_shown.specs.Runs.{BytesName}
 use Rattle.mp4_extra_sound.specs.declared.dfla.FlacBlockKind.{FlacBlockKind}
@@ -20,29 +20,32 @@ abbrev pub stream_widths : List ℕ
 stream_widths = 16 ∷ 16 ∷ 24 ∷ 24 ∷ 20 ∷ 4 ∷ 6 ∷ 36 ∷ []
 
 -- a number from 1 to `most`
-abbrev pub counted_from_one : List ℕ → ℕ → ℕ → Taking ℕ
-counted_from_one name most n = expect (nat_le 1 n && nat_le n most) name reasons.OutOfRange >>= λ _. Ok n
+abbrev pub counted_from_one : List ℕ → ℕ → ℕ → Taking (Unit {0})
+counted_from_one name most n = expect (nat_le 1 n && nat_le n most) name reasons.OutOfRange
 
 -- rate, channels, bits and number of samples; channels and bits are kept minus one
 abbrev pub stream_word : ℕ → ℕ → ℕ → ℕ → ℕ
 stream_word rate channels bits total = rate * 2 ^ 44 + (channels - 1) * 2 ^ 41 + (bits - 1) * 2 ^ 36 + total
 
 -- the bytes of the numbers
-abbrev pub stream_bytes : List ℕ → Taking (List ℕ)
-stream_bytes (a ∷ b ∷ c ∷ d ∷ rate ∷ channels ∷ bits ∷ total ∷ ns) =
-    counted_from_one (codes "channels") 8 channels >>= λ _. counted_from_one (codes "bits_per_sample") 32 bits >>= λ _.
-    Ok (be_bytes 2 a ++ (be_bytes 2 b ++ (be_bytes 3 c ++ (be_bytes 3 d
-    ++ be_bytes 8 (stream_word rate channels bits total)))))
-stream_bytes ns = Ok []
+abbrev pub stream_bytes : List ℕ → List ℕ
+stream_bytes ns =
+    bytes_of_fields ((2, slice_index ns 0) ∷ (2, slice_index ns 1) ∷ (3, slice_index ns 2) ∷ (3, slice_index ns 3)
+    ∷ (8, stream_word (slice_index ns 4) (slice_index ns 5) (slice_index ns 6) (slice_index ns 7)) ∷ [])
 
+-- the numbers, with a channel and a bit at least
 abbrev pub stream_numbers_taken : Takes (List ℕ)
 stream_numbers_taken ms =
-    numbers_taken dfla.STREAM.now stream_widths ms >>= λ p. stream_bytes p.0 >>= λ bytes. Ok (bytes, p.1)
+    numbers_taken dfla.STREAM.now stream_widths ms >>= λ p.
+    counted_from_one (codes "channels") 8 (slice_index p.0 5) >>= λ _.
+    counted_from_one (codes "bits_per_sample") 32 (slice_index p.0 6) >>= λ _. Ok p
+
+abbrev pub checksum_taken : BytesName → Takes (List ℕ)
+checksum_taken checksum ms = run_if checksum (λ sum. length sum == 16) reasons.WrongLength ms
 
 abbrev pub info_taken : BytesName → Takes (List ℕ)
 info_taken checksum ms =
-    stream_numbers_taken ms >>= λ p. run_if checksum (λ sum. length sum == 16) reasons.WrongLength p.1 >>= λ q.
-    Ok (p.0 ++ q.0, q.1)
+    stream_numbers_taken ms >>= λ p. checksum_taken checksum p.1 >>= λ q. Ok (stream_bytes p.0 ++ q.0, q.1)
 
 abbrev pub block_data_taken : ℕ → Takes (List ℕ)
 block_data_taken block_type ms =

@@ -3,7 +3,7 @@ use Rattle.std.specs.Prelude.{ℕ, ◌==◌, ◌&&◌, nat_lt, Bool, false, List
 use Rattle.std.specs.Prelude.{Option, Some, None, Ok, codes, length, take, drop, slice_index}
 use Rattle.std.specs.Str.{bytes_eq}
 use Rattle.json.specs.Json.{Json, Members}
-use Rattle.mp4_frame.specs.Bytes.{be_bytes}
+use Rattle.mp4_frame.specs.Bytes.{bytes_of_fields}
 use Rattle.mp4_declared.specs.Bits.{joined}
 use Rattle.mp4_declared.specs.Layout.{OwnEntry}
 use Rattle.mp4_shown.specs.Lists.{ListName}
@@ -39,9 +39,9 @@ layer_widths =
 -- the bytes of flags, of two clocks, and of the lengths of fields
 abbrev pub layer_bytes : List ℕ → List ℕ
 layer_bytes ns =
-    be_bytes 1 (joined flag_widths (take 8 ns)) ++ (be_bytes 4 (slice_index ns 8) ++ (be_bytes 4 (slice_index ns 9)
-    ++ (be_bytes 1 (slice_index ns 10) ++ (be_bytes 1 (slice_index ns 11) ++ (be_bytes 1 (slice_index ns 12)
-    ++ (be_bytes 1 (slice_index ns 13) ++ be_bytes 2 (joined length_widths (drop 14 ns))))))))
+    bytes_of_fields ((1, joined flag_widths (take 8 ns)) ∷ (4, slice_index ns 8) ∷ (4, slice_index ns 9)
+    ∷ (1, slice_index ns 10) ∷ (1, slice_index ns 11) ∷ (1, slice_index ns 12) ∷ (1, slice_index ns 13)
+    ∷ (2, joined length_widths (drop 14 ns)) ∷ [])
 
 abbrev pub layer_numbers_taken : Takes (List ℕ)
 layer_numbers_taken ms = map_taken layer_bytes (numbers_taken esds.LAYER.now layer_widths ms)

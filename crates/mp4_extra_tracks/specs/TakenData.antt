@@ -1,7 +1,8 @@
 -- data: the type says how the value is read
-use Rattle.std.specs.Prelude.{ℕ, ℤ, pos, int_le, ◌+◌, ◌-◌, ◌*◌, ◌^◌, ◌==◌, ◌&&◌}
+use Rattle.std.specs.Ordering.{int_eq}
+use Rattle.std.specs.Prelude.{ℕ, ℤ, pos, ◌+◌, ◌-◌, ◌*◌, ◌^◌, ◌==◌, ◌&&◌}
 use Rattle.std.specs.Prelude.{◌||◌, nat_le, nat_lt, not, Bool, true, false}
-use Rattle.std.specs.Prelude.{List, [], ◌∷◌, Option, Some, None, if◌then◌else◌, Ok, length}
+use Rattle.std.specs.Prelude.{List, Option, Some, None, if◌then◌else◌, Ok, length, slice_index}
 use Rattle.std.specs.Int.{w64, cast_unsigned}
 use Rattle.json.specs.Json.{Json}
 use Rattle.json.specs.Find.{as_str}
@@ -26,13 +27,14 @@ is_lower c = nat_le 97 c && nat_le c 122
 
 -- the two letters of a country, and the three of a packed language
 abbrev pub country_of : List ℕ → Option ℕ
-country_of (a ∷ b ∷ []) = if is_letter a && is_letter b then Some (a * 256 + b) else None
-country_of s = None
+country_of s =
+    if (length s == 2) && (is_letter (slice_index s 0) && is_letter (slice_index s 1))
+    then Some (slice_index s 0 * 256 + slice_index s 1) else None
 
 abbrev pub language_of : List ℕ → Option ℕ
-language_of (a ∷ b ∷ c ∷ []) =
-    if is_lower a && (is_lower b && is_lower c) then Some ((a - 96) * 1024 + ((b - 96) * 32 + (c - 96))) else None
-language_of s = None
+language_of s =
+    if (length s == 3) && (is_lower (slice_index s 0) && (is_lower (slice_index s 1) && is_lower (slice_index s 2)))
+    then Some ((slice_index s 0 - 96) * 1024 + (slice_index s 1 - 96) * 32 + (slice_index s 2 - 96)) else None
 
 abbrev pub code_by : Locale → List ℕ → Option ℕ
 code_by locales.Country = country_of
@@ -88,16 +90,23 @@ number_if name signed (Some j) = or_not_whole name (number_of signed j)
 number_if name signed None = Ok None
 
 abbrev pub is_same : ℤ → Option ℤ → Bool
-is_same z (Some y) = int_le z y && int_le y z
+is_same z (Some y) = int_eq z y
 is_same z None = true
+
+-- bytes that are a number, which is that of the member beside them
+abbrev pub number_in_hex : Bool → List ℕ → List ℕ → Option ℤ → Json → Taking (List ℕ)
+number_in_hex signed name hex_name number j =
+    at_path hex_name (hex_in j) >>= λ bytes. expect (is_width (length bytes)) hex_name reasons.WrongLength >>= λ _.
+    expect (is_same (number_in signed bytes) number) name reasons.Contradiction >>= λ _. Ok bytes
+
+abbrev pub bytes_or_missing : Bool → List ℕ → Option ℤ → Taking (List ℕ)
+bytes_or_missing signed name (Some z) = Ok (usual_bytes signed z)
+bytes_or_missing signed name None = refused name reasons.Missing
 
 -- the bytes are the field if they are there, and the number follows from them
 abbrev pub number_bytes : Bool → List ℕ → List ℕ → Option ℤ → Option Json → Taking (List ℕ)
-number_bytes signed name hex_name number (Some j) =
-    at_path hex_name (hex_in j) >>= λ bytes. expect (is_width (length bytes)) hex_name reasons.WrongLength >>= λ _.
-    expect (is_same (number_in signed bytes) number) name reasons.Contradiction >>= λ _. Ok bytes
-number_bytes signed name hex_name (Some z) None = Ok (usual_bytes signed z)
-number_bytes signed name hex_name None None = refused name reasons.Missing
+number_bytes signed name hex_name number (Some j) = number_in_hex signed name hex_name number j
+number_bytes signed name hex_name number None = bytes_or_missing signed name number
 
 abbrev pub number_or_bytes : Bool → List ℕ → List ℕ → Option Json → Option Json → Taking (List ℕ)
 number_or_bytes signed name hex_name value hex =

@@ -32,20 +32,16 @@ fn take_hex(alloc: Global, name: &str, object: &mut Object<'_>) -> Result<Entrie
 }
 
 /// Takes the three numbers of an `nclc` out.
+#[tactic(auto, unfolding(mp4_frame::specs::Bytes::bytes_of_fields, mp4_frame::specs::Bytes::bytes_of_fields_onto))]
 fn take_nclc(alloc: Global, object: &mut Object<'_>) -> Result<Entries<u8>>
     ensures { TakesAs (λ bytes. (bytes, left object.new)) result
         (nclc_taken (left object.old)) }
 {
-    let [primaries, transfer, matrix] = take_numbers(
-        alloc,
-        colr::NAMES.1.0,
-        &[16, 16, 16],
-        object,
-    )?;
+    let numbers = take_numbers(alloc, colr::NAMES.1.0, &[16, 16, 16], object)?;
     let mut bytes = Vec::new(alloc);
-    push_number(primaries, 2, &mut bytes)?;
-    push_number(transfer, 2, &mut bytes)?;
-    push_number(matrix, 2, &mut bytes)?;
+    push_number(numbers[0], 2, &mut bytes)?;
+    push_number(numbers[1], 2, &mut bytes)?;
+    push_number(numbers[2], 2, &mut bytes)?;
     Ok(bytes.into())
 }
 

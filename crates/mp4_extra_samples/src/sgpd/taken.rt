@@ -2,12 +2,15 @@
 
 ghost use Rattle.mp4_declared.specs.OwnBox.{no_context};
 ghost use Rattle.mp4_extra_samples.specs.declared.sgpd.TheConstants as sgpd;
-ghost use Rattle.std.specs.Prelude.{map};
+ghost use Rattle.std.specs.Prelude.{◌≡◌, ℕ, ◌<◌, ◌^◌, ◌++◌, IfOk, length, map, slice_index};
+ghost use Rattle.mp4_frame.specs.Bytes.{be_bytes};
 ghost use Rattle.mp4_shown.specs.Numbers.{seen_number};
 ghost use Rattle.mp4_shown.specs.Object.{left};
-ghost use Rattle.mp4_extra_samples.specs.TakenSgpd.{bit_taken, description_members, description_taken};
-ghost use Rattle.mp4_extra_samples.specs.TakenSgpd.{encryption_taken};
-ghost use Rattle.mp4_extra_samples.specs.TakenSgpd.{fields_or_bytes, sgpd_taken};
+ghost use Rattle.mp4_extra_samples.specs.TakenSgpd.{bit_taken, counted_description, description_members};
+ghost use Rattle.mp4_extra_samples.specs.TakenSgpd.{description_taken, kind_taken, roll_taken, sized_bytes};
+ghost use Rattle.mp4_extra_samples.specs.TakenSgpd.{sized_description};
+ghost use Rattle.mp4_extra_samples.specs.TakenSgpd.{encryption_bytes, encryption_taken, encryption_widths};
+ghost use Rattle.mp4_extra_samples.specs.TakenSgpd.{fields_or_bytes, key_taken, sgpd_taken};
 ghost use Rattle.mp4_shown.specs.Taking.{TakesAs};
 
 use super::{
@@ -23,7 +26,7 @@ use mp4_shown::taken::{
     NO_CONTEXT, Object, Reason, Result, TakeFields, TakePieces, TakeShape, end_object, object_in,
     push_number, refuse, take_bytes, take_count, take_numbers, take_pieces, take_signed,
 };
-use std::alloc::Global;
+use std::alloc::{AllocError, Global};
 
 /// The fields before the descriptions.
 type Front = Full<
@@ -45,37 +48,73 @@ fn take_bit_and_rest(
     ensures { TakesAs (λ bytes. (bytes.items, left object.new)) result
         (bit_taken (map seen_number names.now) (left object.old)) }
 {
-    let [bit, rest] = take_numbers(alloc, names, &[1, 7], object)?;
+    let numbers = take_numbers(alloc, names, &[1, 7], object)?;
     let mut bytes = Vec::new(alloc);
-    push_number(bit * 128 + rest, 1, &mut bytes)?;
+    push_number(numbers[0] * 128 + numbers[1], 1, &mut bytes)?;
     Ok(bytes)
+}
+
+/// Returns the bytes of the numbers of a `seig`.
+#[tactic(auto, unfolding(mp4_frame::specs::Bytes::bytes_of_fields, mp4_frame::specs::Bytes::bytes_of_fields_onto))]
+fn encryption_bytes(alloc: Global, numbers: &[u64; 5]) -> std::result::Result<Vec<u8>, AllocError>
+    requires { (k : ℕ) → slice_index numbers.now k < 2 ^ slice_index encryption_widths k }
+    ensures { IfOk result (λ bytes. bytes.items ≡ encryption_bytes numbers.now) }
+{
+    let mut bytes = Vec::new(alloc);
+    push_number(numbers[0], 1, &mut bytes)?;
+    push_number(numbers[1] * 16 + numbers[2], 1, &mut bytes)?;
+    push_number(numbers[3], 1, &mut bytes)?;
+    push_number(numbers[4], 1, &mut bytes)?;
+    Ok(bytes)
+}
+
+/// Takes the key of a `seig` out.
+fn take_key(alloc: Global, object: &mut Object<'_>) -> Result<Vec<u8>>
+    ensures { TakesAs (λ bytes. (bytes.items, left object.new)) result (key_taken (left object.old)) }
+{
+    let key = take_bytes(alloc, KID, object)?;
+    if key.len() != 16 {
+        return Err(refuse(alloc, KID.0, Reason::WrongLength));
+    }
+    Ok(key)
 }
 
 /// Takes the fields of a `seig` out.
 fn take_encryption(alloc: Global, object: &mut Object<'_>) -> Result<Vec<u8>>
     ensures { TakesAs (λ bytes. (bytes.items, left object.new)) result (encryption_taken (left object.old)) }
 {
-    let [reserved, crypt, skip, protected, size] = take_numbers(
-        alloc,
-        ENCRYPTION,
-        &[8, 4, 4, 8, 8],
-        object,
-    )?;
-    let mut bytes = Vec::new(alloc);
-    push_number(reserved, 1, &mut bytes)?;
-    push_number(crypt * 16 + skip, 1, &mut bytes)?;
-    push_number(protected, 1, &mut bytes)?;
-    push_number(size, 1, &mut bytes)?;
-    let kid = take_bytes(alloc, KID, object)?;
-    if kid.len() != 16 {
-        return Err(refuse(alloc, KID.0, Reason::WrongLength));
-    }
-    bytes.extend_from_slice(kid.as_slice())?;
-    if protected == 1 && size == 0 {
+    let numbers = take_numbers(alloc, ENCRYPTION, &[8, 4, 4, 8, 8], object)?;
+    let mut bytes = encryption_bytes(alloc, &numbers)?;
+    let key = take_key(alloc, object)?;
+    bytes.extend_from_slice(key.as_slice())?;
+    if numbers[3] == 1 && numbers[4] == 0 {
         let constant = take_bytes(alloc, CONSTANT_IV, object)?;
         bytes.extend_from_slice(constant.as_slice())?;
     }
     Ok(bytes)
+}
+
+/// Takes the distance of a `roll` out.
+fn take_roll(alloc: Global, object: &mut Object<'_>) -> Result<Vec<u8>>
+    ensures { TakesAs (λ bytes. (bytes.items, left object.new)) result (roll_taken (left object.old)) }
+{
+    let distance = take_signed(alloc, ROLL_DISTANCE, -(1 << 15), (1 << 15) - 1, object)?;
+    let mut bytes = Vec::new(alloc);
+    push_number(distance.cast_unsigned(), 2, &mut bytes)?;
+    Ok(bytes)
+}
+
+/// Takes the fields of a description of this `kind` out.
+fn take_kind(alloc: Global, kind: GroupKind, object: &mut Object<'_>) -> Result<Vec<u8>>
+    ensures { TakesAs (λ bytes. (bytes.items, left object.new)) result (kind_taken kind (left object.old)) }
+{
+    match kind {
+        GroupKind::Roll => take_roll(alloc, object),
+        GroupKind::RandomAccess => take_bit_and_rest(alloc, LEADING, object),
+        GroupKind::Level => take_bit_and_rest(alloc, LEVEL, object),
+        GroupKind::Encryption => take_encryption(alloc, object),
+        GroupKind::Unknown => take_bytes(alloc, UNKNOWN, object),
+    }
 }
 
 /// Takes a description of this `kind` out: its fields, or bytes.
@@ -83,19 +122,68 @@ fn take_description(alloc: Global, kind: GroupKind, object: &mut Object<'_>) -> 
     ensures { TakesAs (λ bytes. (bytes.items, left object.new)) result (fields_or_bytes kind (left object.old)) }
 {
     if object.has(UNKNOWN.0) {
-        return take_bytes(alloc, UNKNOWN, object);
+        take_bytes(alloc, UNKNOWN, object)
+    } else {
+        take_kind(alloc, kind, object)
     }
-    match kind {
-        GroupKind::Roll => {
-            let distance = take_signed(alloc, ROLL_DISTANCE, -(1 << 15), (1 << 15) - 1, object)?;
-            let mut bytes = Vec::new(alloc);
-            push_number(distance.cast_unsigned(), 2, &mut bytes)?;
-            Ok(bytes)
+}
+
+/// Returns a description after its length, which has 32 bits.
+fn counted_bytes(alloc: Global, description: &[u8]) -> std::result::Result<Vec<u8>, AllocError>
+    ensures { IfOk result (λ bytes. bytes.items ≡ be_bytes 4 (length description.now) ++ description.now) }
+{
+    let mut bytes = Vec::new(alloc);
+    push_number(description.len() as u64, 4, &mut bytes)?;
+    bytes.extend_from_slice(description)?;
+    Ok(bytes)
+}
+
+/// Takes the length of a description out, and returns the description after it.
+fn take_counted(alloc: Global, description: &[u8], object: &mut Object<'_>) -> Result<Vec<u8>>
+    ensures { TakesAs (λ bytes. (bytes.items, left object.new)) result
+        (counted_description description.now (left object.old)) }
+{
+    take_count(alloc, DESCRIPTION_LENGTH.0, description.len(), object)?;
+    if description.len() >= 1 << 32 {
+        return Err(refuse(alloc, "", Reason::WrongLength));
+    }
+    Ok(counted_bytes(alloc, description)?)
+}
+
+/// Returns a description that has to be `size` bytes.
+fn sized_bytes(alloc: Global, size: usize, description: Vec<u8>) -> Result<Vec<u8>>
+    ensures { TakesAs (λ bytes. bytes.items) result (sized_bytes size description.items) }
+{
+    if description.len() == size {
+        Ok(description)
+    } else {
+        Err(refuse(alloc, "", Reason::WrongLength))
+    }
+}
+
+/// Returns a description of this `kind` and default length, after its own length if it has one.
+fn with_length(
+    alloc: Global,
+    kind: GroupKind,
+    default_length: Option<u32>,
+    description: Vec<u8>,
+    object: &mut Object<'_>,
+) -> Result<Vec<u8>>
+    ensures { TakesAs (λ bytes. (bytes.items, left object.new)) result
+        (sized_description kind default_length description.items (left object.old)) }
+{
+    match default_length {
+        None => {
+            let size = usual_size(kind, description.as_slice());
+            sized_bytes(alloc, size, description)
         }
-        GroupKind::RandomAccess => take_bit_and_rest(alloc, LEADING, object),
-        GroupKind::Level => take_bit_and_rest(alloc, LEVEL, object),
-        GroupKind::Encryption => take_encryption(alloc, object),
-        GroupKind::Unknown => take_bytes(alloc, UNKNOWN, object),
+        Some(length) => {
+            if length == 0 {
+                take_counted(alloc, description.as_slice(), object)
+            } else {
+                sized_bytes(alloc, length as usize, description)
+            }
+        }
     }
 }
 
@@ -110,30 +198,13 @@ fn take_piece(
 {
     let kind = kind_of(u32::from(descriptions.grouping_type));
     let description = take_description(alloc, kind, object)?;
-    match descriptions.default_length {
-        None => {
-            if usual_size(kind, description.as_slice()) != description.len() {
-                return Err(refuse(alloc, "", Reason::WrongLength));
-            }
-            Ok(description)
-        }
-        Some(0) => {
-            take_count(alloc, DESCRIPTION_LENGTH.0, description.len(), object)?;
-            if description.len() >= 1 << 32 {
-                return Err(refuse(alloc, "", Reason::WrongLength));
-            }
-            let mut bytes = Vec::new(alloc);
-            push_number(description.len() as u64, 4, &mut bytes)?;
-            bytes.extend_from_slice(description.as_slice())?;
-            Ok(bytes)
-        }
-        Some(length) => {
-            if description.len() != length as usize {
-                return Err(refuse(alloc, "", Reason::WrongLength));
-            }
-            Ok(description)
-        }
-    }
+    with_length(
+        alloc,
+        kind,
+        descriptions.default_length,
+        description,
+        object,
+    )
 }
 
 impl TakePieces for Descriptions {

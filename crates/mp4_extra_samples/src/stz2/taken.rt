@@ -2,11 +2,11 @@
 
 ghost use Rattle.mp4_declared.specs.OwnBox.{no_context};
 ghost use Rattle.mp4_extra_samples.specs.declared.stz2.TheConstants as stz2;
-ghost use Rattle.std.specs.Prelude.{◌≡◌, ◌<◌, ◌≤◌, ◌^◌, ◌==◌, ◌||◌, ◌++◌, [], All, IsTrue, Ok, OnOk};
+ghost use Rattle.std.specs.Prelude.{◌≡◌, ◌<◌, ◌≤◌, ◌^◌, ◌++◌, [], All, IsTrue, IfOk, Ok, OnOk};
 ghost use Rattle.mp4_shown.specs.Object.{left};
 ghost use Rattle.mp4_shown.specs.TakenRuns.{small_in};
-ghost use Rattle.mp4_extra_samples.specs.TakenStz2.{entries_or_bytes, halves, may_pad, sizes_of, sizes_taken};
-ghost use Rattle.mp4_extra_samples.specs.TakenStz2.{stz2_taken, words};
+ghost use Rattle.mp4_extra_samples.specs.TakenStz2.{entries_or_bytes, halves, is_known, may_pad, padding_taken};
+ghost use Rattle.mp4_extra_samples.specs.TakenStz2.{size_numbers, sizes_of, sizes_taken, stz2_taken, words};
 ghost use Rattle.mp4_shown.specs.Taking.{TakesAs};
 
 use super::Stz2;
@@ -82,7 +82,7 @@ fn push_words(sizes: &[u16], bytes: &mut Vec<u8>) -> std::result::Result<(), All
 fn bytes_of(alloc: Global, bits: u8, padding: u8, sizes: &[u16]) -> Result<Vec<u8>>
     requires half { padding < 16 }
     requires fit { All (λ size. size < 2 ^ bits) sizes.now }
-    requires known { IsTrue ((bits == 4) || ((bits == 8) || (bits == 16))) }
+    requires known { IsTrue (is_known bits) }
     ensures { TakesAs (λ bytes. bytes.items) result (Ok (sizes_of bits padding sizes.now)) }
 {
     let mut bytes = Vec::new(alloc);
@@ -103,25 +103,59 @@ fn may_pad(bits: u8, count: u32, padding: u64) -> bool
     padding == 0 || (bits == 4 && count % 2 == 1)
 }
 
-/// Takes the bytes of `count` sizes of `bits` bits out, and the bytes after them.
-fn take_sizes(alloc: Global, bits: u8, count: u32, object: &mut Object<'_>) -> Result<Vec<u8>>
-    ensures { TakesAs (λ bytes. (bytes.items, left object.new)) result (sizes_taken bits count (left object.old)) }
+/// Returns whether a size may have `bits` bits.
+fn is_known(bits: u8) -> bool
+    ensures { result ≡ is_known bits }
 {
-    let (name, (padding_name, (_, rest_name))) = stz2::NAMES.1.1.1.1;
+    bits == 4 || bits == 8 || bits == 16
+}
+
+/// Takes `count` sizes of `bits` bits out.
+#[tactic(auto, using(mp4_shown::proofs::TakenCounts::items_length))]
+fn take_size_numbers(
+    alloc: Global,
+    bits: u8,
+    count: u32,
+    object: &mut Object<'_>,
+) -> Result<Vec<u16>>
+    ensures value { TakesAs (λ ns. (ns.items, left object.new)) result (size_numbers bits count (left object.old)) }
+    ensures known { OnOk result (IsTrue (is_known bits)) }
+    ensures fit { IfOk result (λ ns. All (λ n. n < 2 ^ bits) ns.items) }
+{
+    let name = stz2::NAMES.1.1.1.1.0;
     let items = take_array(alloc, name, object)?;
     if items.len() != count as usize {
         return Err(refuse(alloc, stz2::NAMES.1.1.1.0.0, Reason::Contradiction));
     }
-    if bits != 4 && bits != 8 && bits != 16 {
-        return Err(refuse(alloc, stz2::NAMES.1.1.0.0, Reason::OutOfRange));
+    if is_known(bits) {
+        take_each(alloc, name, &SizeItem { bits }, items)
+    } else {
+        Err(refuse(alloc, stz2::NAMES.1.1.0.0, Reason::OutOfRange))
     }
-    let sizes: Vec<u16> = take_each(alloc, name, &SizeItem { bits }, items)?;
-    let padding = take_number(alloc, padding_name, 4, object)?;
-    if !may_pad(bits, count, padding) {
-        return Err(refuse(alloc, padding_name.0, Reason::OutOfRange));
+}
+
+/// Takes the padding of `count` sizes of `bits` bits out.
+fn take_padding(alloc: Global, bits: u8, count: u32, object: &mut Object<'_>) -> Result<u8>
+    ensures value { TakesAs (λ n. (n, left object.new)) result (padding_taken bits count (left object.old)) }
+    ensures half { IfOk result (λ n. n < 16) }
+{
+    let name = stz2::NAMES.1.1.1.1.1.0;
+    let padding = take_number(alloc, name, 4, object)?;
+    if may_pad(bits, count, padding) {
+        Ok(padding as u8)
+    } else {
+        Err(refuse(alloc, name.0, Reason::OutOfRange))
     }
-    let mut bytes = bytes_of(alloc, bits, padding as u8, sizes.as_slice())?;
-    let rest = take_bytes(alloc, rest_name, object)?;
+}
+
+/// Takes the bytes of `count` sizes of `bits` bits out, and the bytes after them.
+fn take_sizes(alloc: Global, bits: u8, count: u32, object: &mut Object<'_>) -> Result<Vec<u8>>
+    ensures { TakesAs (λ bytes. (bytes.items, left object.new)) result (sizes_taken bits count (left object.old)) }
+{
+    let sizes = take_size_numbers(alloc, bits, count, object)?;
+    let padding = take_padding(alloc, bits, count, object)?;
+    let mut bytes = bytes_of(alloc, bits, padding, sizes.as_slice())?;
+    let rest = take_bytes(alloc, stz2::NAMES.1.1.1.1.1.1.1, object)?;
     bytes.extend_from_slice(rest.as_slice())?;
     Ok(bytes)
 }

@@ -2,14 +2,15 @@
 
 ghost use Rattle.mp4_shown.specs.TakenShapes.{declared_taken};
 ghost use Rattle.mp4_extra_sound.specs.declared.esds.TheConstants.{NAMES};
-ghost use Rattle.std.specs.Prelude.{◌≡◌};
+ghost use Rattle.std.specs.Prelude.{◌≡◌, ℕ, ◌<◌, ◌^◌, IfOk, slice_index};
 ghost use Rattle.json.specs.Value.{value_view};
 ghost use Rattle.mp4_declared.specs.OwnBox.{no_context};
 ghost use Rattle.mp4_extra_sound.specs.AudioConfig.{audio_config};
 ghost use Rattle.mp4_extra_sound.specs.declared.esds.TheConstants as esds;
 ghost use Rattle.mp4_extra_sound.specs.TakenEsds.{audio_numbers, audio_taken, config_in, config_taken, content_taken};
 ghost use Rattle.mp4_extra_sound.specs.TakenEsds.{descriptor_members, descriptor_taken, es_taken, fits_size, is_config};
-ghost use Rattle.mp4_extra_sound.specs.TakenEsds.{layer_fields_taken, layer_numbers_taken, layer_taken, options_taken};
+ghost use Rattle.mp4_extra_sound.specs.TakenEsds.{layer_bytes, layer_fields_taken, layer_numbers_taken, layer_taken};
+ghost use Rattle.mp4_extra_sound.specs.TakenEsds.{layer_widths, options_taken};
 ghost use Rattle.mp4_shown.specs.Object.{all_of, left};
 ghost use Rattle.mp4_shown.specs.Taking.{TakesAs};
 
@@ -29,7 +30,7 @@ use mp4_shown::taken::{
     NO_CONTEXT, Object, Reason, Result, TakeEntry, TakeFields, TakeShape, end_object, joined,
     object_in, push_number, refuse, take_bytes, take_declared, take_number, take_numbers,
 };
-use std::alloc::Global;
+use std::alloc::{AllocError, Global};
 
 /// The widths of the flags of a synchronization layer, in bits.
 const FLAG_WIDTHS: [u8; 8] = [1, 1, 1, 1, 1, 1, 1, 1];
@@ -43,11 +44,12 @@ const LAYER_WIDTHS: [u8; 18] = [1, 1, 1, 1, 1, 1, 1, 1, 32, 32, 8, 8, 8, 8, 4, 5
 /// A number of a synchronization layer that isn't predefined, by which its numbers are known.
 const TIME_STAMP_RESOLUTION: &str = "timeStampResolution";
 
-/// Takes the numbers of a synchronization layer out, and returns their bytes.
-fn take_layer_numbers(alloc: Global, object: &mut Object<'_>) -> Result<Vec<u8>>
-    ensures { TakesAs (λ bytes. (bytes.items, left object.new)) result (layer_numbers_taken (left object.old)) }
+/// Returns the bytes of the numbers of a synchronization layer.
+#[tactic(auto, unfolding(mp4_frame::specs::Bytes::bytes_of_fields, mp4_frame::specs::Bytes::bytes_of_fields_onto))]
+fn layer_bytes(alloc: Global, numbers: &[u64; 18]) -> std::result::Result<Vec<u8>, AllocError>
+    requires { (k : ℕ) → slice_index numbers.now k < 2 ^ slice_index layer_widths k }
+    ensures { IfOk result (λ bytes. bytes.items ≡ layer_bytes numbers.now) }
 {
-    let numbers = take_numbers(alloc, LAYER, &LAYER_WIDTHS, object)?;
     let flags = joined(&FLAG_WIDTHS, &numbers[..8]);
     let lengths = joined(&LENGTH_WIDTHS, &numbers[14..]);
     let mut bytes = Vec::new(alloc);
@@ -60,6 +62,14 @@ fn take_layer_numbers(alloc: Global, object: &mut Object<'_>) -> Result<Vec<u8>>
     push_number(numbers[13], 1, &mut bytes)?;
     push_number(lengths, 2, &mut bytes)?;
     Ok(bytes)
+}
+
+/// Takes the numbers of a synchronization layer out, and returns their bytes.
+fn take_layer_numbers(alloc: Global, object: &mut Object<'_>) -> Result<Vec<u8>>
+    ensures { TakesAs (λ bytes. (bytes.items, left object.new)) result (layer_numbers_taken (left object.old)) }
+{
+    let numbers = take_numbers(alloc, LAYER, &LAYER_WIDTHS, object)?;
+    Ok(layer_bytes(alloc, &numbers)?)
 }
 
 /// Takes the numbers of a synchronization layer out, if it isn't predefined and has any, and returns their bytes.

@@ -1,13 +1,15 @@
 //! Takes the box back out of its JSON.
 
-ghost use Rattle.std.specs.Prelude.{◌≡◌, ◌-◌, Some, None, IfSome, IsTrue, if◌then◌else◌, length, option_map};
+ghost use Rattle.std.specs.Prelude.{◌≡◌, ◌≤◌, true, IfOk, IfSome, IsTrue, length, option_map};
 ghost use Rattle.json.specs.Value.{value_view};
 ghost use Rattle.mp4_frame.specs.Bytes.{be_bytes};
 ghost use Rattle.mp4_extra_tracks.specs.ShownValue.{is_letter};
 ghost use Rattle.mp4_extra_tracks.specs.declared.data.TheConstants as data_box;
 ghost use Rattle.mp4_shown.specs.Object.{left};
-ghost use Rattle.mp4_extra_tracks.specs.TakenData.{code_by, data_taken, is_lower, is_width, locale_taken, number_in};
-ghost use Rattle.mp4_extra_tracks.specs.TakenData.{number_of, number_or_bytes, number_taken_by, usual_bytes};
+ghost use Rattle.mp4_extra_tracks.specs.TakenData.{bytes_or_missing, code_by, country_of, data_taken, is_lower};
+ghost use Rattle.mp4_extra_tracks.specs.TakenData.{is_same, is_width, language_of, locale_taken, number_if, number_in};
+ghost use Rattle.mp4_extra_tracks.specs.TakenData.{number_in_hex, number_of, number_or_bytes, number_taken_by};
+ghost use Rattle.mp4_extra_tracks.specs.TakenData.{usual_bytes};
 ghost use Rattle.mp4_extra_tracks.specs.TakenData.{value_taken};
 ghost use Rattle.mp4_shown.specs.Taking.{TakesAs};
 
@@ -31,15 +33,12 @@ enum Locale {
     Language,
 }
 
-/// Returns the number of the letter `byte` in a packed language, or `None` if it is none.
-fn letter(byte: u8) -> Option<u16>
-    ensures { result ≡ (if is_lower byte then Some (byte - 96) else None) }
+/// Returns whether `byte` is a small letter of ASCII.
+fn is_lower(byte: u8) -> bool
+    ensures value { result ≡ is_lower byte }
+    ensures range { result ≡ true → (97 ≤ byte) × (byte ≤ 122) }
 {
-    if 97 <= byte && byte <= 122 {
-        Some(u16::from(byte - 96))
-    } else {
-        None
-    }
+    97 <= byte && byte <= 122
 }
 
 /// Returns whether `byte` is a letter of ASCII.
@@ -49,23 +48,36 @@ fn is_letter(byte: u8) -> bool
     (65 <= byte && byte <= 90) || (97 <= byte && byte <= 122)
 }
 
+/// Returns the number of the country with the two letters `text`, or `None` if they aren't two.
+fn country_of(text: &[u8]) -> Option<u16>
+    ensures { result ≡ country_of text.now }
+{
+    if text.len() == 2 && is_letter(text[0]) && is_letter(text[1]) {
+        Some(u16::from(text[0]) * 256 + u16::from(text[1]))
+    } else {
+        None
+    }
+}
+
+/// Returns the packed code of the language with the three letters `text`, or `None` if they aren't three.
+fn language_of(text: &[u8]) -> Option<u16>
+    ensures { result ≡ language_of text.now }
+{
+    if text.len() == 3 && is_lower(text[0]) && is_lower(text[1]) && is_lower(text[2]) {
+        let front = u16::from(text[0] - 96) * 1024 + u16::from(text[1] - 96) * 32;
+        Some(front + u16::from(text[2] - 96))
+    } else {
+        None
+    }
+}
+
 /// Returns the number of a part of a locale with the letters `text`, or `None` if they aren't letters of one.
 fn code_of(locale: Locale, text: &[u8]) -> Option<u16>
     ensures { result ≡ code_by locale text.now }
 {
     match locale {
-        Locale::Country => {
-            if text.len() != 2 || !is_letter(text[0]) || !is_letter(text[1]) {
-                return None;
-            }
-            Some(u16::from(text[0]) * 256 + u16::from(text[1]))
-        }
-        Locale::Language => {
-            if text.len() != 3 {
-                return None;
-            }
-            Some(letter(text[0])? * 1024 + letter(text[1])? * 32 + letter(text[2])?)
-        }
+        Locale::Country => country_of(text),
+        Locale::Language => language_of(text),
     }
 }
 
@@ -110,7 +122,7 @@ type SizedNumber = (u64, i128, usize);
 /// Returns the number that `value` is.
 fn sized_number(signed: bool, value: &Value<'_>) -> Option<SizedNumber>
     ensures number { option_map (λ n. n.1) result ≡ number_of signed (value_view value.now) }
-    ensures bytes { IfSome result (λ n. be_bytes n.2 n.0 ≡ usual_bytes signed n.1) }
+    ensures bytes { IfSome result (λ n. (n.2 ≤ 8) × (be_bytes n.2 n.0 ≡ usual_bytes signed n.1)) }
 {
     if signed {
         let number = integer::signed_in(value)?;
@@ -125,6 +137,96 @@ fn sized_number(signed: bool, value: &Value<'_>) -> Option<SizedNumber>
     }
 }
 
+/// Returns the number that the member `name` is, or `None` if it is absent.
+fn number_if(
+    alloc: Global,
+    signed: bool,
+    name: &str,
+    value: &Option<Value<'_>>,
+) -> Result<Option<SizedNumber>>
+    ensures number { TakesAs (option_map (λ n. n.1)) result
+        (number_if name.now signed (option_map value_view value.now)) }
+    ensures bytes { IfOk result (λ number. IfSome number (λ n. (n.2 ≤ 8) × (be_bytes n.2 n.0 ≡ usual_bytes signed n.1))) }
+{
+    let Some(value) = value else {
+        return Ok(None);
+    };
+    match sized_number(signed, value) {
+        Some(number) => Ok(Some(number)),
+        None => Err(refuse(alloc, name, Reason::NotWhole)),
+    }
+}
+
+/// Returns whether a number may have `bytes` bytes.
+fn is_width(bytes: usize) -> bool
+    ensures { result ≡ is_width bytes }
+{
+    bytes == 1 || bytes == 2 || bytes == 4 || bytes == 8
+}
+
+/// Returns whether the number of some bytes is that of the member beside them, if there is one.
+fn is_same(found: i128, number: Option<i128>) -> bool
+    ensures { result ≡ is_same found number }
+{
+    match number {
+        Some(number) => found == number,
+        None => true,
+    }
+}
+
+/// Returns the bytes that `hex` is, which are called `hex_name`. They are those of `number`, which is called `name`, if
+/// it is present.
+fn number_in_hex(
+    alloc: Global,
+    signed: bool,
+    name: &str,
+    hex_name: &str,
+    number: Option<i128>,
+    hex: &Value<'_>,
+) -> Result<Vec<u8>>
+    ensures { TakesAs (λ bytes. bytes.items) result
+        (number_in_hex signed name.now hex_name.now number (value_view hex.now)) }
+{
+    let bytes = hex_in(alloc, hex_name, hex)?;
+    if !is_width(bytes.len()) {
+        return Err(refuse(alloc, hex_name, Reason::WrongLength));
+    }
+    if is_same(number_of(signed, bytes.as_slice()), number) {
+        Ok(bytes)
+    } else {
+        Err(refuse(alloc, name, Reason::Contradiction))
+    }
+}
+
+/// Returns the bytes that `number` usually has. It is called `name`, and may not be absent.
+fn bytes_or_missing(
+    alloc: Global,
+    signed: bool,
+    name: &str,
+    number: Option<SizedNumber>,
+) -> Result<Vec<u8>>
+    requires { IfSome number (λ n. (n.2 ≤ 8) × (be_bytes n.2 n.0 ≡ usual_bytes signed n.1)) }
+    ensures { TakesAs (λ bytes. bytes.items) result
+        (bytes_or_missing signed name.now (option_map (λ n. n.1) number)) }
+{
+    let Some((bits, _, width)) = number else {
+        return Err(refuse(alloc, name, Reason::Missing));
+    };
+    let mut bytes = Vec::new(alloc);
+    push_number(bits, width, &mut bytes)?;
+    Ok(bytes)
+}
+
+/// Returns the value of `number`.
+fn value_of(number: Option<SizedNumber>) -> Option<i128>
+    ensures { result ≡ option_map (λ n. n.1) number }
+{
+    match number {
+        Some(number) => Some(number.1),
+        None => None,
+    }
+}
+
 /// Returns the bytes of a number: those of `hex`, from which the number follows, or as many as it usually has.
 fn number_bytes(
     alloc: Global,
@@ -136,32 +238,11 @@ fn number_bytes(
         data_box.NAMES.now.1.1.1.1.1.1.0.0.now (option_map value_view value.now) (option_map value_view hex.now)) }
 {
     let (_, (name, (number_hex, _))) = data::NAMES.1.1.1.1;
-    let number = match value {
-        Some(value) => match sized_number(signed, value) {
-            Some(number) => Some(number),
-            None => return Err(refuse(alloc, name, Reason::NotWhole)),
-        },
-        None => None,
-    };
-    if let Some(hex) = hex {
-        let bytes = hex_in(alloc, number_hex.0, hex)?;
-        let width = bytes.len();
-        if width != 1 && width != 2 && width != 4 && width != 8 {
-            return Err(refuse(alloc, number_hex.0, Reason::WrongLength));
-        }
-        if let Some((_, number, _)) = number {
-            if number_of(signed, bytes.as_slice()) != number {
-                return Err(refuse(alloc, name, Reason::Contradiction));
-            }
-        }
-        return Ok(bytes);
+    let number = number_if(alloc, signed, name, value)?;
+    match hex {
+        Some(hex) => number_in_hex(alloc, signed, name, number_hex.0, value_of(number), hex),
+        None => bytes_or_missing(alloc, signed, name, number),
     }
-    let Some((bits, _, width)) = number else {
-        return Err(refuse(alloc, name, Reason::Missing));
-    };
-    let mut bytes = Vec::new(alloc);
-    push_number(bits, width.min(8), &mut bytes)?;
-    Ok(bytes)
 }
 
 /// Takes a number and its bytes out, of which one may be absent. Returns its bytes.

@@ -1,6 +1,6 @@
 //! The number of an item.
 
-ghost use Rattle.std.specs.Prelude.{◌≡◌, ◌*◌};
+ghost use Rattle.std.specs.Prelude.{◌≡◌, ◌*◌, ◌≤◌};
 ghost use Rattle.mp4_extra_tracks.specs.ItemId.{item_width};
 ghost use Rattle.mp4_shown.specs.TakenNumbers.{number_taken};
 
@@ -12,7 +12,8 @@ use std::alloc::Global;
 
 /// Returns the number of bits of the number of an item in `version`.
 fn item_bits<const V: u8>(version: u8) -> u32
-    ensures { result ≡ 8 * item_width V version }
+    ensures value { result ≡ 8 * item_width V version }
+    ensures few { result ≤ 32 }
 {
     if version < V { 16 } else { 32 }
 }
