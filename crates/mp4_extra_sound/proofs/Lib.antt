@@ -1,1 +1,2 @@
 mod LayerBits
+mod TakenInside

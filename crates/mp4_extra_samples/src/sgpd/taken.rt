@@ -175,13 +175,13 @@ fn with_length(
     match default_length {
         None => {
             let size = usual_size(kind, description.as_slice());
-            sized_bytes(alloc, size, description)
+            Ok(sized_bytes(alloc, size, description)?)
         }
         Some(length) => {
             if length == 0 {
                 take_counted(alloc, description.as_slice(), object)
             } else {
-                sized_bytes(alloc, length as usize, description)
+                Ok(sized_bytes(alloc, length as usize, description)?)
             }
         }
     }

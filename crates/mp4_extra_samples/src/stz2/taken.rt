@@ -15,8 +15,8 @@ use json::Value;
 use mp4_declared::{Full, Last, U8, U32};
 use mp4_frame::Entries;
 use mp4_shown::taken::{
-    NO_CONTEXT, Object, Reason, Result, TakeFields, TakeItem, TakeShape, push_number, refuse,
-    small_in, take_array, take_bytes, take_each, take_number,
+    NO_CONTEXT, Object, Reason, Result, TakeFields, TakeItem, TakeShape, number_of, push_number,
+    refuse, small_in, take_array, take_bytes, take_each, take_number,
 };
 use std::alloc::{AllocError, Global};
 
@@ -111,7 +111,6 @@ fn is_known(bits: u8) -> bool
 }
 
 /// Takes `count` sizes of `bits` bits out.
-#[tactic(auto, using(mp4_shown::proofs::TakenCounts::items_length))]
 fn take_size_numbers(
     alloc: Global,
     bits: u8,
@@ -124,14 +123,14 @@ fn take_size_numbers(
 {
     let name = stz2::NAMES.1.1.1.1.0;
     let items = take_array(alloc, name, object)?;
-    if items.len() != count as usize {
+    if number_of(items.as_slice()) != count as usize {
         return Err(refuse(alloc, stz2::NAMES.1.1.1.0.0, Reason::Contradiction));
     }
-    if is_known(bits) {
-        take_each(alloc, name, &SizeItem { bits }, items)
-    } else {
-        Err(refuse(alloc, stz2::NAMES.1.1.0.0, Reason::OutOfRange))
+    if !is_known(bits) {
+        return Err(refuse(alloc, stz2::NAMES.1.1.0.0, Reason::OutOfRange));
     }
+    let sizes = take_each(alloc, name, &SizeItem { bits }, items)?;
+    Ok(sizes)
 }
 
 /// Takes the padding of `count` sizes of `bits` bits out.

@@ -272,18 +272,26 @@ type OptionParts = (
     Last<If<IfFlags<1>, U16>>,
 );
 
+/// Takes the parts that `flags` announce out.
+fn take_parts(
+    alloc: Global,
+    flags: &EsFlags,
+    object: &mut Object<'_>,
+) -> Result<<OptionParts as TakeShape>::Taken>
+    ensures { TakesAs (λ parts. (parts, left object.new)) result
+        (⟦<OptionParts as TakeShape>⟧.taken esds.OPTIONS.now.1 (⟦<EsFlags as HasContext>⟧.context_of flags.now)
+        (left object.old)) }
+{
+    OptionParts::take(alloc, &OPTIONS.1, flags.context(), object)
+}
+
 impl TakeFields for EsOptions {
     ghost taken = { options_taken ⟦<EsFlags as EntryLayout<4, 1>>⟧.layout
         (λ f. ⟦<OptionParts as TakeShape>⟧.taken esds.OPTIONS.now.1 (⟦<EsFlags as HasContext>⟧.context_of f)) };
 
     fn take(alloc: Global, object: &mut Object<'_>) -> Result<EsOptions> {
         let flags = Bits::<EsFlags, 4, 1>::take(alloc, &OPTIONS.0, NO_CONTEXT, object)?;
-        let (depends_on_es_id, (url, (ocr_es_id, ()))) = OptionParts::take(
-            alloc,
-            &OPTIONS.1,
-            flags.context(),
-            object,
-        )?;
+        let (depends_on_es_id, (url, (ocr_es_id, ()))) = take_parts(alloc, &flags, object)?;
         Ok(EsOptions {
             flags,
             depends_on_es_id,

@@ -105,6 +105,7 @@ fn take_locale(alloc: Global, name: &str, locale: Locale, object: &mut Object<'_
 }
 
 /// Returns the number that `bytes` are, of two's complement if it is `signed`.
+#[tactic(auto, using(crate::proofs::TakenWidths::some_width, crate::proofs::TakenWidths::small_width))]
 fn number_of(signed: bool, bytes: &[u8]) -> i128
     requires { IsTrue (is_width (length bytes.now)) }
     ensures { result ≡ number_in signed bytes.now }
@@ -120,6 +121,7 @@ fn number_of(signed: bool, bytes: &[u8]) -> i128
 type SizedNumber = (u64, i128, usize);
 
 /// Returns the number that `value` is.
+#[tactic(auto, using(crate::proofs::TakenWidths::few_bytes))]
 fn sized_number(signed: bool, value: &Value<'_>) -> Option<SizedNumber>
     ensures number { option_map (λ n. n.1) result ≡ number_of signed (value_view value.now) }
     ensures bytes { IfSome result (λ n. (n.2 ≤ 8) × (be_bytes n.2 n.0 ≡ usual_bytes signed n.1)) }

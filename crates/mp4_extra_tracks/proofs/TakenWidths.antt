@@ -1,0 +1,25 @@
+-- Numbers of few bits, and the widths of numbers.
+use Rattle.std.proofs.Common.{◌≡◌, ℕ, ◌<◌, ◌≤◌, ◌^◌, Bool, true, false, arith}
+use Rattle.std.proofs.Math.Nat.{pow-le-pow_right}
+use Rattle.std.proofs.lemmas.Bool.Decides.{nat_tests}
+use Rattle.std.specs.Prelude.{IsTrue, if◌then◌else◌}
+use Rattle.mp4_extra_tracks.specs.TakenData.{is_width}
+
+pub below_word : (n bits : ℕ) → bits ≤ 32 → n < 2 ^ bits → n < 2 ^ 32
+below_word n bits few below =
+    let most : 2 ^ bits ≤ 2 ^ 32 = pow-le-pow_right {n = 2} (omega arith) few in
+    omega (arith, below, most)
+
+-- a width by three tests
+pub few_bytes : (a b c : Bool) → (if a then 1 else if b then 2 else if c then 4 else 8) ≤ 8
+few_bytes true b c = omega arith
+few_bytes false true c = omega arith
+few_bytes false false true = omega arith
+few_bytes false false false = omega arith
+
+-- a number has at most 8 bytes, and one at least
+pub some_width : (n : ℕ) → IsTrue (is_width n) → 1 ≤ n
+some_width n is = grind (arith, nat_tests)
+
+pub small_width : (n : ℕ) → IsTrue (is_width n) → n ≤ 8
+small_width n is = grind (arith, nat_tests)
