@@ -148,7 +148,8 @@ fn number_if(
 ) -> Result<Option<SizedNumber>>
     ensures number { TakesAs (option_map (λ n. n.1)) result
         (number_if name.now signed (option_map value_view value.now)) }
-    ensures bytes { IfOk result (λ number. IfSome number (λ n. (n.2 ≤ 8) × (be_bytes n.2 n.0 ≡ usual_bytes signed n.1))) }
+    ensures bytes { IfOk result (λ number. IfSome number (λ n. (n.2 ≤ 8)
+        × (be_bytes n.2 n.0 ≡ usual_bytes signed n.1))) }
 {
     let Some(value) = value else {
         return Ok(None);
