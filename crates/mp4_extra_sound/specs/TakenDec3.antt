@@ -17,13 +17,17 @@ use Rattle.mp4_shown.specs.Taking.{Taking, ◌>>=◌}
 abbrev pub no_dependents : Members → Bool
 no_dependents ms = is_number 0 (number_at (codes "num_dep_sub") ms)
 
+-- a stream that none depends on, and one that others depend on
+abbrev pub single_taken : Takes (List ℕ)
+single_taken ms =
+    map_taken (λ ns. be_bytes 3 (joined dec3.STREAM_WIDTHS ns)) (numbers_taken dec3.STREAM.now dec3.STREAM_WIDTHS ms)
+
+abbrev pub parent_taken : Takes (List ℕ)
+parent_taken ms =
+    map_taken (λ ns. be_bytes 4 (joined dec3.PARENT_WIDTHS ns)) (numbers_taken dec3.PARENT.now dec3.PARENT_WIDTHS ms)
+
 abbrev pub stream_members : Takes (List ℕ)
-stream_members ms =
-    if no_dependents ms
-    then map_taken (λ ns. be_bytes 3 (joined dec3.STREAM_WIDTHS ns))
-    (numbers_taken dec3.STREAM.now dec3.STREAM_WIDTHS ms)
-    else map_taken (λ ns. be_bytes 4 (joined dec3.PARENT_WIDTHS ns))
-    (numbers_taken dec3.PARENT.now dec3.PARENT_WIDTHS ms)
+stream_members ms = if no_dependents ms then single_taken ms else parent_taken ms
 
 abbrev pub stream_taken : Json → Taking (List ℕ)
 stream_taken j = object_taken stream_members j

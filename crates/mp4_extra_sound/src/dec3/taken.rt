@@ -1,6 +1,8 @@
 //! Takes the box back out of its JSON.
 
-ghost use Rattle.mp4_extra_sound.specs.TakenDec3.{dec3_taken, stream_members, stream_taken};
+ghost use Rattle.std.specs.Prelude.{◌≡◌};
+ghost use Rattle.mp4_extra_sound.specs.TakenDec3.{dec3_taken, no_dependents, parent_taken, single_taken};
+ghost use Rattle.mp4_extra_sound.specs.TakenDec3.{stream_members, stream_taken};
 ghost use Rattle.mp4_shown.specs.Object.{left};
 ghost use Rattle.mp4_shown.specs.Taking.{TakesAs};
 
@@ -18,19 +20,47 @@ use std::alloc::Global;
 /// The number of streams that depend on a stream.
 const DEPENDENTS: &str = "num_dep_sub";
 
+/// Returns whether no stream depends on a stream.
+fn has_no_dependents(object: &Object<'_>) -> bool
+    ensures { result ≡ no_dependents (left object.now) }
+{
+    match object.number(DEPENDENTS) {
+        Some(number) => number == 0,
+        None => false,
+    }
+}
+
+/// Takes the bytes of a stream that none depends on out.
+fn take_single(alloc: Global, object: &mut Object<'_>) -> Result<Vec<u8>>
+    ensures { TakesAs (λ bytes. (bytes.items, left object.new)) result (single_taken (left object.old)) }
+{
+    let numbers = take_numbers(alloc, STREAM, &STREAM_WIDTHS, object)?;
+    let word = joined(&STREAM_WIDTHS, &numbers);
+    let mut bytes = Vec::new(alloc);
+    push_number(word, 3, &mut bytes)?;
+    Ok(bytes)
+}
+
+/// Takes the bytes of a stream that others depend on out.
+fn take_parent(alloc: Global, object: &mut Object<'_>) -> Result<Vec<u8>>
+    ensures { TakesAs (λ bytes. (bytes.items, left object.new)) result (parent_taken (left object.old)) }
+{
+    let numbers = take_numbers(alloc, PARENT, &PARENT_WIDTHS, object)?;
+    let word = joined(&PARENT_WIDTHS, &numbers);
+    let mut bytes = Vec::new(alloc);
+    push_number(word, 4, &mut bytes)?;
+    Ok(bytes)
+}
+
 /// Takes the bytes of a stream out.
 fn take_stream(alloc: Global, object: &mut Object<'_>) -> Result<Vec<u8>>
     ensures { TakesAs (λ bytes. (bytes.items, left object.new)) result (stream_members (left object.old)) }
 {
-    let mut bytes = Vec::new(alloc);
-    if object.number(DEPENDENTS) == Some(0) {
-        let numbers = take_numbers(alloc, STREAM, &STREAM_WIDTHS, object)?;
-        push_number(joined(&STREAM_WIDTHS, &numbers), 3, &mut bytes)?;
+    if has_no_dependents(object) {
+        take_single(alloc, object)
     } else {
-        let numbers = take_numbers(alloc, PARENT, &PARENT_WIDTHS, object)?;
-        push_number(joined(&PARENT_WIDTHS, &numbers), 4, &mut bytes)?;
+        take_parent(alloc, object)
     }
-    Ok(bytes)
 }
 
 impl TakePieces for Streams {
