@@ -1,2 +1,1 @@
 mod LayerBits
-mod TakenInside

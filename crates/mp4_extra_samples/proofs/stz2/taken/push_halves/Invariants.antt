@@ -1,4 +1,4 @@
--- The bytes so far, and then those of the sizes that are left.
+-- The bytes of the sizes before, and then those of the sizes that are left.
 use Rattle.std.proofs.Common.{◌≡◌, ◌*◌, ◌++◌, drop}
 use Rattle.mp4_extra_samples.specs.TakenStz2.{halves}
 use Rattle.mp4_extra_samples.proofs.stz2.taken.push_halves.Given as goal
