@@ -129,7 +129,7 @@ fn take_size_numbers(
     if !is_known(bits) {
         return Err(refuse(alloc, stz2::NAMES.1.1.0.0, Reason::OutOfRange));
     }
-    let sizes = take_each(alloc, name, &SizeItem { bits }, items)?;
+    let sizes: Vec<u16> = take_each(alloc, name, &SizeItem { bits }, items)?;
     Ok(sizes)
 }
 
