@@ -19,7 +19,7 @@ none_from n is = grind (arith, nat_tests)
 pub some_from : (n : ℕ) → (n == 0) ≡ false → 0 < n
 some_from n is = grind (arith, nat_tests)
 
-zeros : (ws : List ℕ) → map (λ _. 0) ws ≡ replicate (length ws) 0
+zeros : (ws : List ℕ) → map {B = ℕ} (λ _. 0) ws ≡ replicate (length ws) 0
 zeros [] = refl
 zeros (w ∷ ws) = ap (λ (l : List ℕ). 0 ∷ l) (zeros ws)
 
