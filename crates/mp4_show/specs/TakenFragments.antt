@@ -2,7 +2,7 @@
 use Rattle.std.specs.Prelude.{ℕ, ℤ, pos, negsuc, ◌-◌, ◌^◌, ◌==◌, ◌&&◌, ◌||◌, nat_lt, int_le, bit_and, not, Bool}
 use Rattle.std.specs.Prelude.{List, [], Option, if◌then◌else◌, Ok}
 use Rattle.std.specs.Int.{w32, cast_unsigned}
-use Rattle.json.specs.Json.{Json}
+use Rattle.json.specs.Json.{Json, Members}
 use Rattle.mp4_tables.specs.declared.tfhd.TfhdBox.{TfhdBox}
 use Rattle.mp4_tables.specs.declared.trun.TrunBox.{TrunBox}
 use Rattle.mp4_show.specs.declared.taken.fragments.TheConstants.{DURATIONS, OFFSETS, SAMPLE_FLAGS, SIZES}
@@ -49,10 +49,14 @@ whole_column name count taken ms =
     array_taken name ms >>= λ p. expect (length_of p.0 == count) name reasons.WrongCount >>= λ _.
     each_taken taken name 0 p.0 >>= λ ns. Ok (ns, p.1)
 
--- a number for each sample, if the list is there; without samples it may be absent
+-- without samples a list may be absent
+abbrev pub is_left_out : List ℕ → Bool → ℕ → Members → Bool
+is_left_out name is_there count ms = not is_there || ((count == 0) && not (has name ms))
+
+-- a number for each sample, unless the list is left out
 abbrev pub column_taken : List ℕ → Bool → ℕ → (Json → Taking ℕ) → Takes (List ℕ)
 column_taken name is_there count taken ms =
-    if not is_there || ((count == 0) && not (has name ms)) then Ok ([], ms) else whole_column name count taken ms
+    if is_left_out name is_there count ms then Ok ([], ms) else whole_column name count taken ms
 
 abbrev pub has_flag : ℕ → ℕ → Bool
 has_flag flags mask = nat_lt 0 (bit_and flags mask)

@@ -3,7 +3,8 @@
 ghost use Rattle.std.specs.Prelude.{◌≡◌, []};
 ghost use Rattle.mp4_declared.specs.OwnBox.{no_context};
 ghost use Rattle.mp4_show.specs.declared.taken.fragments.TheConstants.{TFHD, TRUN};
-ghost use Rattle.mp4_show.specs.TakenFragments.{column_taken, has_flag, make_tfhd, offset_in, trun_taken};
+ghost use Rattle.mp4_show.specs.TakenFragments.{column_taken, has_flag, is_left_out, make_tfhd, offset_in};
+ghost use Rattle.mp4_show.specs.TakenFragments.{trun_taken, whole_column};
 ghost use Rattle.mp4_shown.specs.Object.{left};
 ghost use Rattle.mp4_shown.specs.TakenRuns.{small_in};
 ghost use Rattle.mp4_shown.specs.TakenShapes.{made_of};
@@ -15,8 +16,8 @@ use mp4_declared::{Full, I32, If, IfFlags, Last, U32, U64};
 use mp4_frame::Entries;
 use mp4_shown::taken::integer::signed_in;
 use mp4_shown::taken::{
-    NO_CONTEXT, Object, Reason, Result, TakeItem, TakeShape, refuse, small_in, take_array,
-    take_each,
+    NO_CONTEXT, Object, Reason, Result, TakeItem, TakeShape, number_of, refuse, small_in,
+    take_array, take_each,
 };
 use mp4_shown::{FLAGS, VERSION, names_of, number};
 use mp4_tables::{TfhdBox, TrunBox};
@@ -68,6 +69,7 @@ impl TakeBox for TfhdBox {
         })
     }
 }
+
 /// An entry that is an offset of a run in a `version`: it has a sign in every version but 0.
 #[derive(Drop)]
 struct OffsetItem {
@@ -103,6 +105,33 @@ impl TakeItem<u32> for NumberItem {
     }
 }
 
+/// Returns whether the list `name` of a run is left out: if `is_there` isn't set, or if the run has no sample and
+/// `object` no such member.
+fn is_left_out(name: &str, is_there: bool, count: u32, object: &Object<'_>) -> bool
+    ensures { result ≡ is_left_out name.now is_there count (left object.now) }
+{
+    !is_there || (count == 0 && !object.has(name))
+}
+
+/// Takes the list `name` of a run out, which has `count` numbers.
+fn take_whole<T: TakeItem<u32>>(
+    alloc: Global,
+    name: &str,
+    count: u32,
+    by: &T,
+    object: &mut Object<'_>,
+) -> Result<Entries<u32>>
+    ensures { TakesAs (λ numbers. (numbers, left object.new)) result
+        (whole_column name.now count (T.taken by.now) (left object.old)) }
+{
+    let items = take_array(alloc, name, object)?;
+    if number_of(items.as_slice()) != count as usize {
+        return Err(refuse(alloc, name, Reason::WrongCount));
+    }
+    let numbers: Vec<u32> = take_each(alloc, name, by, items)?;
+    Ok(numbers.into())
+}
+
 /// Takes the list `name` of a run out, which has `count` numbers if `is_there` is set, and else none. A list without
 /// numbers may be absent.
 fn take_column<T: TakeItem<u32>>(
@@ -116,15 +145,10 @@ fn take_column<T: TakeItem<u32>>(
     ensures { TakesAs (λ numbers. (numbers, left object.new)) result
         (column_taken name.now is_there count (T.taken by.now) (left object.old)) }
 {
-    if !is_there || (count == 0 && !object.has(name)) {
+    if is_left_out(name, is_there, count, object) {
         return Ok(Entries::new(alloc));
     }
-    let items = take_array(alloc, name, object)?;
-    if items.len() != count as usize {
-        return Err(refuse(alloc, name, Reason::WrongCount));
-    }
-    let numbers: Vec<u32> = take_each(alloc, name, by, items)?;
-    Ok(numbers.into())
+    take_whole(alloc, name, count, by, object)
 }
 
 /// Returns whether a flag of `mask` is set in `flags`.
