@@ -114,9 +114,6 @@ make_vmhd v = record {
   version = v.0;
   flags = v.1.0;
   graphics_mode = v.1.1.0;
-  red = v.1.1.1.0;
-  green = v.1.1.1.1.0;
-  blue = v.1.1.1.1.1.0;
   op_color = record { red = v.1.1.1.0; green = v.1.1.1.1.0; blue = v.1.1.1.1.1.0 };
 }
 
