@@ -11,7 +11,7 @@ use Rattle.mp4_c_boxes.specs.declared.status.TheConstants.{OK, NO_ROOM, OUT_OF_M
 use Rattle.mp4_check.specs.Codes.{code_of, severity_of, word_of}
 use Rattle.mp4_check.specs.FaultValues.{Value}
 use Rattle.mp4_check.specs.Faults.{faults_of}
-use Rattle.mp4_check.specs.PathTexts.{path_shown}
+use Rattle.mp4_content.specs.PathTexts.{path_shown}
 use Rattle.mp4_check.specs.declared.fault.Code.{Code}
 use Rattle.mp4_check.specs.declared.fault.Code.TheVariants as c
 use Rattle.mp4_check.specs.declared.fault.Severity.{Severity}

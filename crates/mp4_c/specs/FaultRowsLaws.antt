@@ -5,7 +5,7 @@ use Rattle.mp4_c.specs.FaultRows.{AddsFaults, AreRows, fault_row}
 use Rattle.mp4_c.specs.declared.file_faults.FaultRow.{FaultRow}
 use Rattle.mp4_c.specs.declared.file_faults.FoundFaults.{FoundFaults}
 use Rattle.mp4_check.specs.FaultValues.{Value}
-use Rattle.mp4_check.specs.PathTexts.{path_shown}
+use Rattle.mp4_content.specs.PathTexts.{path_shown}
 
 rows_append : (at next : ℕ) (vs ws : List Value) (rows more : List FaultRow) (text other : List ℕ)
     → next ≡ at + length text → AreRows at vs rows text → AreRows next ws more other

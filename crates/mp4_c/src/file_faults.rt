@@ -5,7 +5,7 @@ ghost use Rattle.mp4_c.specs.FaultRows.{AddsFaults, AreFaults, ChecksFile, Copie
 ghost use Rattle.mp4_c.specs.FaultRows.{code_number, name_at, severity_number, table_of};
 ghost use Rattle.mp4_c.specs.FaultRowsLaws.{adds_more, adds_none};
 ghost use Rattle.mp4_check.specs.FaultValues.{value_of};
-ghost use Rattle.mp4_check.specs.PathTexts.{path_shown};
+ghost use Rattle.mp4_content.specs.PathTexts.{path_shown};
 
 use crate::text_part::{TextPart, push_part, put_front};
 use mp4_c_boxes::status::{NO_ROOM, OK, OUT_OF_MEMORY};

@@ -9,7 +9,7 @@ use Rattle.mp4_check.specs.FaultValues.{Value, fault_at}
 use Rattle.mp4_check.specs.FragmentFaults.{File, IsGoing, Times, faults_of_moofs, faults_of_trafs, fragment_faults}
 use Rattle.mp4_check.specs.FragmentFaults.{next_end, next_times, times_after, traf_faults, trafs_of, values_in}
 use Rattle.mp4_check.specs.Indexes.{faults_of_indexes, index_faults, index_what}
-use Rattle.mp4_check.specs.Paths.{in_file, next}
+use Rattle.mp4_content.specs.Paths.{in_file, next}
 use Rattle.mp4_check.specs.TrackFaults.{Facts, IsMet, faults_of_tracks, track_faults}
 use Rattle.mp4_check.specs.declared.fragments.Going.{Going}
 use Rattle.mp4_check.specs.declared.lines.Told.{Told}

@@ -6,10 +6,10 @@ use Rattle.std.proofs.lemmas.List.{drop_all, drop_more, map_more, take_all, take
 use Rattle.std.proofs.lemmas.List.Sums.{fold-append}
 use Rattle.mp4_check.specs.BoxFaults.{box_faults, faults_of_boxes}
 use Rattle.mp4_check.specs.FaultValues.{Value, value_of, values_of}
-use Rattle.mp4_check.specs.Paths.{AreOpen, Code, entered, parts_of}
+use Rattle.mp4_content.specs.Paths.{AreOpen, Code, entered, parts_of}
 use Rattle.mp4_check.specs.declared.fault.Fault.{Fault}
 use Rattle.mp4_check.specs.declared.lines.Told.{Told}
-use Rattle.mp4_check.specs.declared.path.OpenLevel.{OpenLevel}
+use Rattle.mp4_content.specs.declared.path.OpenLevel.{OpenLevel}
 use Rattle.mp4_check.proofs.ShownFaults.{Laws, Written, WritesFirst, first_all, first_more}
 use Rattle.mp4_frame.specs.Reading.{Reading}
 use Rattle.mp4_frame.specs.declared.box_type.BoxType.{BoxType}

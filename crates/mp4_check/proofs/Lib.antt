@@ -9,7 +9,6 @@ pub mod LookedSamples
 pub mod MediaOrder
 pub mod MetTracks
 pub mod MissingParts
-pub mod OpenPaths
 pub mod Outcomes
 pub mod Pairs
 pub mod PassedUnits

@@ -7,7 +7,7 @@ use Rattle.std.proofs.lemmas.List.{map-append, take_more}
 use Rattle.std.proofs.lemmas.List.Elements.{filter_map-append}
 use Rattle.mp4_check.specs.FaultValues.{Value, fault_at}
 use Rattle.mp4_check.specs.declared.fault.What.{What}
-use Rattle.mp4_check.specs.declared.path.Part.{Part}
+use Rattle.mp4_content.specs.declared.path.Part.{Part}
 
 abbrev pub at : ℕ → List Part → What → Value
 at position path w = record { position = position; path = path; what = w }

@@ -10,7 +10,7 @@ use Rattle.std.specs.declared.option.Option.{Option}
 use Rattle.mp4_check.specs.FaultValues.{Value}
 use Rattle.mp4_check.specs.FragmentFaults.{trafs_of}
 use Rattle.mp4_check.specs.Headers.{track_header}
-use Rattle.mp4_check.specs.Paths.{next}
+use Rattle.mp4_content.specs.Paths.{next}
 use Rattle.mp4_check.specs.SampleFaults.{AreKinds, AreMoofsLooked, AreSampleFaults, AreTracksLooked, AreTrafsLooked}
 use Rattle.mp4_check.specs.SampleFaults.{TrackLooked, TrafLooked, kinds_at, kinds_for, track_kinds}
 use Rattle.mp4_check.specs.TrackFaults.{has_track_id}

@@ -4,12 +4,12 @@ use Rattle.std.specs.Prelude.{ℕ, Bool, List, [], ◌∷◌, ◌++◌, map, Non
 use Rattle.std.specs.declared.option.Option.{Option}
 use Rattle.mp4_check.specs.Contents.{is_unlisted, lacks_sets}
 use Rattle.mp4_check.specs.FaultValues.{Value, fault_at}
-use Rattle.mp4_check.specs.Paths.{path_of}
+use Rattle.mp4_content.specs.Paths.{path_of}
 use Rattle.mp4_check.specs.Siblings.{missing, repeated}
 use Rattle.mp4_check.specs.Unreadable.{unreadable}
 use Rattle.mp4_check.specs.declared.fault.What.{What}
 use Rattle.mp4_check.specs.declared.fault.What.TheVariants as what
-use Rattle.mp4_check.specs.declared.path.Part.{Part}
+use Rattle.mp4_content.specs.declared.path.Part.{Part}
 use Rattle.mp4_frame.specs.Reading.{Reading}
 use Rattle.mp4_frame.specs.declared.box_type.BoxType.{BoxType}
 use Rattle.mp4_walk.specs.declared.tree_box.TreeBox.{TreeBox}

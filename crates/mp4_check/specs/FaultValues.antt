@@ -4,7 +4,7 @@ use Rattle.std.specs.Prelude.{ℕ, List, [], ◌∷◌, None, Some, map}
 use Rattle.std.specs.declared.option.Option.{Option}
 use Rattle.mp4_check.specs.declared.fault.Fault.{Fault}
 use Rattle.mp4_check.specs.declared.fault.What.{What}
-use Rattle.mp4_check.specs.declared.path.Part.{Part}
+use Rattle.mp4_content.specs.declared.path.Part.{Part}
 
 pub record Value : Type 0 where
   pub position : ℕ

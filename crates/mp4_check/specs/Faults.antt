@@ -13,7 +13,7 @@ use Rattle.mp4_check.specs.Indexes.{index_faults}
 use Rattle.mp4_check.specs.Lines.{Writes}
 use Rattle.mp4_check.specs.Media.{media_of}
 use Rattle.mp4_check.specs.Parts.{is_file}
-use Rattle.mp4_check.specs.Paths.{in_file}
+use Rattle.mp4_content.specs.Paths.{in_file}
 use Rattle.mp4_check.specs.TrackFaults.{Facts, faults_of_tracks, longest_track, movie_faults}
 use Rattle.mp4_check.specs.declared.fault.What.{What}
 use Rattle.mp4_check.specs.declared.fault.What.TheVariants as what

@@ -7,7 +7,7 @@ use Rattle.std.specs.declared.option.Option.{Option}
 use Rattle.mp4_check.specs.FaultValues.{Value, fault_at}
 use Rattle.mp4_check.specs.FragmentValues.{Places, TrafValue, fragment_header, traf_values}
 use Rattle.mp4_check.specs.Outside.{runs_outside}
-use Rattle.mp4_check.specs.Paths.{in_fragment, next}
+use Rattle.mp4_content.specs.Paths.{in_fragment, next}
 use Rattle.mp4_check.specs.TrackFaults.{IsMet, first_header, is_track_away}
 use Rattle.mp4_check.specs.declared.extent.Extent.{Extent}
 use Rattle.mp4_check.specs.declared.fault.What.{What}

@@ -7,7 +7,7 @@ use Rattle.std.specs.List.{list_any}
 use Rattle.std.specs.Ordering.{nat_cmp}
 use Rattle.std.specs.declared.option.Option.{Option}
 use Rattle.mp4_check.specs.FaultValues.{Value, fault_at}
-use Rattle.mp4_check.specs.Paths.{in_file, next}
+use Rattle.mp4_content.specs.Paths.{in_file, next}
 use Rattle.mp4_check.specs.declared.fault.What.{What}
 use Rattle.mp4_check.specs.declared.fault.What.TheVariants as what
 use Rattle.mp4_check.specs.declared.indexes.Starts.{Starts}

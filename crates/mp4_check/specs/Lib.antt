@@ -19,8 +19,6 @@ pub mod Media
 pub mod Outside
 pub mod Overlap
 pub mod Parts
-pub mod PathTexts
-pub mod Paths
 pub mod References
 pub mod SampleFaults
 pub mod Siblings

@@ -8,7 +8,7 @@ use Rattle.json.specs.Print.{print}
 use Rattle.json.specs.Token.{Token}
 use Rattle.mp4_check.specs.Codes.{code_of, severity_of, severity_word, word_of}
 use Rattle.mp4_check.specs.FaultValues.{Value}
-use Rattle.mp4_check.specs.PathTexts.{path_shown}
+use Rattle.mp4_content.specs.PathTexts.{path_shown}
 use Rattle.mp4_check.specs.declared.fault.Severity.{Severity}
 use Rattle.mp4_check.specs.declared.fault.Severity.TheVariants as severities
 use Rattle.mp4_check.specs.declared.lines.Form.{Form}

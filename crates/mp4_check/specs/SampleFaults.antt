@@ -10,7 +10,7 @@ use Rattle.mp4_check.specs.Faults.{WritesCheck}
 use Rattle.mp4_check.specs.FragmentFaults.{in_that, trafs_of}
 use Rattle.mp4_check.specs.Headers.{track_header}
 use Rattle.mp4_check.specs.Lines.{Writes}
-use Rattle.mp4_check.specs.Paths.{next}
+use Rattle.mp4_content.specs.Paths.{next}
 use Rattle.mp4_check.specs.References.{is_away}
 use Rattle.mp4_check.specs.TrackFaults.{has_track_id, in_this, table_position}
 use Rattle.mp4_check.specs.TrackTables.{sample_table}

@@ -10,7 +10,7 @@ use Rattle.mp4_check.specs.FaultValues.{Value, fault_at}
 use Rattle.mp4_check.specs.Headers.{edits_of, media_times, track_header}
 use Rattle.mp4_check.specs.Outside.{chunks_outside}
 use Rattle.mp4_check.specs.Overlap.{chunks_overlap}
-use Rattle.mp4_check.specs.Paths.{in_track, next, single}
+use Rattle.mp4_content.specs.Paths.{in_track, next, single}
 use Rattle.mp4_check.specs.References.{is_away}
 use Rattle.mp4_check.specs.TrackTables.{ChunksValue, chunk_table, loose_chunks, sample_table, track_chunks}
 use Rattle.mp4_check.specs.TrackTables.{value_of_chunks}

@@ -4,7 +4,7 @@ ghost use Rattle.std.specs.Prelude.{◌≡◌, ◌<◌, ◌++◌, IfOk, IfSome, 
 ghost use Rattle.std.specs.declared.option.Option.{Option};
 ghost use Rattle.mp4_check.specs.BoxFaults.{box_faults, content_faults, if_true, missing_faults, sibling_faults};
 ghost use Rattle.mp4_check.specs.FaultValues.{fault_at, values_of};
-ghost use Rattle.mp4_check.specs.Paths.{AreOpen, parts_of};
+ghost use Rattle.mp4_content.specs.Paths.{AreOpen, parts_of};
 ghost use Rattle.mp4_check.specs.Unreadable.{unreadable};
 ghost use Rattle.mp4_check.specs.declared.fault.What.TheVariants as whats;
 ghost use Rattle.mp4_check.specs.declared.unreadable.Unread.{Unread};
@@ -12,10 +12,9 @@ ghost use Rattle.mp4_frame.specs.declared.four_cc.FourCC.{FourCC};
 
 use crate::contents::{lacks_sets, unlisted};
 use crate::fault::{Fault, Reason, What};
-use crate::path::BoxPaths;
 use crate::siblings::{lacks, needed_in, repeated};
 use crate::unreadable::{Unread, unreadable};
-use mp4_content::{Shown, or_memory};
+use mp4_content::{BoxPaths, Shown, or_memory};
 use mp4_io::Failure;
 use mp4_show::Result;
 use mp4_walk::{BoxWalk, Source, TreeBox};

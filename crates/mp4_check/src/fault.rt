@@ -6,9 +6,8 @@ ghost use Rattle.mp4_check.specs.Codes.{code_of, severity_of, severity_word, wor
 use crate::duration::Duration;
 use crate::outside::Outside;
 use crate::overlap::Overlap;
-use crate::path::Part;
 use crate::sample_faults::SampleFaults;
-use mp4_content::NotMp4;
+use mp4_content::{NotMp4, Part};
 use mp4_frame::Error;
 use mp4_samples::Disagreement;
 

@@ -5,18 +5,16 @@ ghost use Rattle.mp4_check.specs.FaultValues.{value_of, values_of};
 ghost use Rattle.mp4_check.specs.Lines.{IsLine, IsObject, IsShown, Writes, between, fault_tokens, place_tokens};
 ghost use Rattle.mp4_check.specs.Lines.{front_text, line_text, position_member, severity_text, text_member, told_after};
 ghost use Rattle.mp4_check.specs.LinesLaws.{writes_more, writes_none};
-ghost use Rattle.mp4_check.specs.PathTexts.{index_shown, inner_shown, part_shown, path_shown};
 ghost use Rattle.mp4_check.specs.declared.lines.Told.{Told};
 ghost use Rattle.mp4_check.specs.declared.lines.Form.TheVariants as forms;
 ghost use Rattle.mp4_shown_json.specs.Tokens.{Puts};
 
 use crate::fault::{Fault, Severity};
 use crate::fault_form::FaultForm;
-use crate::path::Part;
 use crate::words::words_of;
-use mp4_content::or_memory;
+use mp4_content::{or_memory, path_text};
 use mp4_io::{Failure, Output, write_all};
-use mp4_show::{Result, json_text, push_code, push_number};
+use mp4_show::{Result, json_text, push_number};
 use mp4_shown_json::JsonSink;
 use std::alloc::Global;
 use std::io::Write;
@@ -39,60 +37,6 @@ pub struct Told {
     pub failures: bool,
     /// True if a warning of this file was written.
     pub warnings: bool,
-}
-
-/// Appends the index of a part, unless it is 0.
-fn push_index(index: u64, out: &mut String) -> Result<()>
-    ensures { OnOk result (string_bytes out.new ≡ string_bytes out.old ++ index_shown index) }
-{
-    if index == 0 {
-        return Ok(());
-    }
-    out.push('[')?;
-    push_number(index, out)?;
-    out.push(']')
-}
-
-/// Appends a part.
-fn push_part(part: Part, out: &mut String) -> Result<()>
-    ensures { OnOk result (string_bytes out.new ≡ string_bytes out.old ++ part_shown part) }
-{
-    match part.code {
-        Some(code) => push_code(code, out)?,
-        None => out.push('-')?,
-    }
-    push_index(part.index, out)
-}
-
-/// Appends parts, each after a slash.
-fn push_inner(parts: &[Part], out: &mut String) -> Result<()>
-    ensures { OnOk result (string_bytes out.new ≡ string_bytes out.old ++ inner_shown parts.now) }
-{
-    for part in parts {
-        out.push('/')?;
-        push_part(*part, out)?;
-    }
-    Ok(())
-}
-
-/// Appends a path, such as `moov/trak[1]/tkhd`: its parts, each with its index unless that is 0.
-pub fn push_path(path: &[Part], out: &mut String) -> Result<()>
-    ensures { OnOk result (string_bytes out.new ≡ string_bytes out.old ++ path_shown path.now) }
-{
-    if path.is_empty() {
-        return Ok(());
-    }
-    push_part(path[0], out)?;
-    push_inner(&path[1..], out)
-}
-
-/// Returns the text of a path, such as `moov/trak[1]/tkhd`.
-pub fn path_text(alloc: Global, path: &[Part]) -> Result<String>
-    ensures { IfOk result (λ text. string_bytes text ≡ path_shown path.now) }
-{
-    let mut text = String::new(alloc);
-    push_path(path, &mut text)?;
-    Ok(text)
 }
 
 /// Returns the front of the words of a fault.

@@ -26,12 +26,11 @@ use crate::headers::{EditTimes, TrackHeader, edits_of, media_times, track_header
 use crate::media::Media;
 use crate::outside::chunks_outside;
 use crate::overlap::chunks_overlap;
-use crate::path::in_track;
 use crate::references::is_away;
 use crate::tables::{
     ChunkTable, TrackChunks, chunk_table, loose_chunks, sample_table, track_chunks,
 };
-use mp4_content::or_memory;
+use mp4_content::{in_track, or_memory};
 use mp4_frame::codes::{MDHD, MDIA, MINF, STBL, TKHD};
 use mp4_io::Failure;
 use mp4_movie::BoxLocation;

@@ -10,10 +10,15 @@ use Rattle.mp4_content.specs.declared.content.Content.{Content}
 use Rattle.mp4_content.specs.declared.content.Content.TheVariants as contents
 use Rattle.mp4_content.specs.declared.kind.Kind.{Kind}
 use Rattle.mp4_content.specs.declared.kind.Kind.TheVariants as kinds
+use Rattle.mp4_walk.specs.declared.tree_box.TreeBox.{TreeBox}
 
 -- how a box is shown in JSON: whole
 abbrev pub json_view : View
 json_view = record { rows = 2 ^ 64 - 1; columns = true }
+
+-- the box is in the sample descriptions of a QuickTime file
+abbrev pub is_quicktime : TreeBox → Bool
+is_quicktime found = found.context.stsd_version == 0
 
 -- QuickTime's version of a sound entry is left out if it is 0
 abbrev pub has_version : Bool → List ℕ → Bool

@@ -1,6 +1,9 @@
 pub mod Content
+pub mod FaultText
 pub mod Fields
 pub mod Foreign
 pub mod Kind
+pub mod PathTexts
+pub mod Paths
+pub mod Pieces
 pub mod Terminator
-pub mod FaultText

@@ -8,6 +8,9 @@ mod fault_texts;
 mod for_prover;
 mod foreign;
 mod kind;
+mod path;
+mod path_texts;
+mod pieces;
 mod shown;
 mod terminator;
 
@@ -17,5 +20,8 @@ pub use fault_texts::{fault_text, push_foreign};
 pub use for_prover::either;
 pub use foreign::{NotMp4, not_mp4};
 pub use kind::{Kind, kind_of};
+pub use path::{BoxPaths, Part, in_file, in_fragment, in_track};
+pub use path_texts::{path_text, push_path};
+pub use pieces::{PIECE, present, size_of, start_of};
 pub use shown::{Shown, ShownBox};
 pub use terminator::may_end;

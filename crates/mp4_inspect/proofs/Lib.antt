@@ -1,15 +1,9 @@
-pub mod BoxPairs
 pub mod Boxes
-pub mod DiffSteps
-pub mod EqualBytes
 pub mod FieldSteps
 pub mod FoundFields
 pub mod Json
-pub mod PairSteps
 pub mod PatternSteps
 pub mod PatternTexts
-pub mod PieceSteps
-pub mod RowSteps
 pub mod TreeSteps
 pub mod TurnSteps
 pub mod WholeJson

@@ -1,7 +1,7 @@
 -- A path that has another number of parts than there are steps.
 use Rattle.std.proofs.Common.{◌≡◌, ◌∙◌, suc, Bool, true, false, List, [], ◌∷◌, length, refl, ap}
 use Rattle.std.specs.Prelude.{◌&&◌}
-use Rattle.mp4_check.specs.declared.path.Part.{Part}
+use Rattle.mp4_content.specs.declared.path.Part.{Part}
 use Rattle.mp4_inspect.specs.Patterns.{accepts, accepts_all}
 use Rattle.mp4_inspect.specs.declared.pattern.Step.{Step}
 

@@ -6,7 +6,7 @@ use Rattle.std.specs.Prelude.{◌==◌, not, IfSome}
 use Rattle.std.specs.Io.KnownBytes.{Appends}
 use Rattle.std.specs.declared.option.Option.{Option}
 use Rattle.mp4_check.proofs.Outcomes.{some_at}
-use Rattle.mp4_check.specs.Paths.{Code, entered, parts_of}
+use Rattle.mp4_content.specs.Paths.{Code, entered, parts_of}
 use Rattle.mp4_frame.specs.Reading.{Reading}
 use Rattle.mp4_frame.specs.declared.box_type.BoxType.{BoxType}
 use Rattle.mp4_inspect.specs.Json.{IsJson}

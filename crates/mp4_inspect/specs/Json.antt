@@ -1,5 +1,5 @@
 -- The JSON of a file, in tokens (RFC 8259).
-use Rattle.std.specs.Prelude.{◌≡◌, ℕ, zero, suc, ◌-◌, ◌==◌, ◌||◌, min, Bool, false}
+use Rattle.std.specs.Prelude.{◌≡◌, ℕ, zero, suc, ◌-◌, ◌||◌, min, Bool, false}
 use Rattle.std.specs.Prelude.{List, [], ◌∷◌, ◌++◌, codes, decimal}
 use Rattle.std.specs.Prelude.{IfSome}
 use Rattle.std.specs.Prelude.{None, Some, if◌then◌else◌}
@@ -12,7 +12,7 @@ use Rattle.mp4_frame.specs.declared.box_type.BoxType.{BoxType}
 use Rattle.mp4_frame.specs.declared.four_cc.FourCC.{FourCC}
 use Rattle.mp4_content.specs.Content.{ShowsAs, is_faulty}
 use Rattle.mp4_content.specs.FaultText.{IsFaultText}
-use Rattle.mp4_content.specs.Fields.{front_fields, json_view}
+use Rattle.mp4_content.specs.Fields.{front_fields, is_quicktime, json_view}
 use Rattle.mp4_content.specs.Kind.{kind_of}
 use Rattle.mp4_content.specs.declared.content.Content.{Content}
 use Rattle.mp4_content.specs.declared.content.Content.TheVariants as contents
@@ -48,10 +48,6 @@ object_tokens es = Token.begin_object ∷ (all_tokens es ++ Token.end_object ∷
 -- the member with this object
 abbrev pub fields_tokens : List Event → List Token
 fields_tokens es = Token.key (codes "fields") ∷ object_tokens es
-
--- the box is in the sample descriptions of a QuickTime file
-abbrev pub is_quicktime : TreeBox → Bool
-is_quicktime found = found.context.stsd_version == 0
 
 -- the next member of the object of a box, by its content: its fields, its fault or nothing. A whole box is shown in
 -- this way, and a sound entry of QuickTime with its version. The rate in version 2 of such an entry is a number.

@@ -1,7 +1,5 @@
-pub mod BytesDiffer
 pub mod Checked
 pub mod Colors
-pub mod Differences
 pub mod Field
 pub mod FieldLines
 pub mod Fields
@@ -12,11 +10,8 @@ pub mod Json
 pub mod Listed
 pub mod Opened
 pub mod Outcome
-pub mod Pairs
 pub mod PatternText
 pub mod Patterns
-pub mod RowChanges
-pub mod Rows
 pub mod TreeLines
 pub mod Trees
 pub mod Written

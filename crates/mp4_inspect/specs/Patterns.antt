@@ -1,8 +1,9 @@
 -- The boxes of a file at a pattern of paths, and their bytes.
 use Rattle.std.specs.Prelude.{ℕ, ◌+◌, ◌-◌, ◌==◌, ◌&&◌, not, Bool, true, false, List, [], ◌∷◌, ◌++◌, length, drop, map}
 use Rattle.std.specs.Prelude.{flat_map, if◌then◌else◌}
-use Rattle.mp4_check.specs.Paths.{Code, entered, parts_of}
-use Rattle.mp4_check.specs.declared.path.Part.{Part}
+use Rattle.mp4_content.specs.Paths.{Code, entered, parts_of}
+use Rattle.mp4_content.specs.declared.path.Part.{Part}
+use Rattle.mp4_content.specs.Pieces.{bytes_of_box}
 use Rattle.mp4_inspect.specs.declared.get.Got.{Got}
 use Rattle.mp4_inspect.specs.declared.get.Got.TheVariants as finds
 use Rattle.mp4_inspect.specs.declared.pattern.Pattern.{Pattern}
@@ -10,7 +11,6 @@ use Rattle.mp4_inspect.specs.declared.pattern.Step.{Step}
 use Rattle.mp4_inspect.specs.declared.pattern.Step.TheVariants as steps
 use Rattle.mp4_walk.specs.FileBoxes.{boxes_of}
 use Rattle.mp4_walk.specs.Paths.{inside, is_code}
-use Rattle.mp4_walk.specs.Source.{content_of, piece}
 use Rattle.mp4_walk.specs.declared.tree_box.TreeBox.{TreeBox}
 
 -- a step accepts the box with this code and index: any box, each box with a code, or the one with a code and an index
@@ -61,10 +61,6 @@ tree_of (x ∷ xs) = lifted x.depth x ∷ map (lifted x.depth) (inside (x.depth 
 -- the trees of the boxes at a pattern
 abbrev pub trees_at : Pattern → List TreeBox → List TreeBox
 trees_at pattern boxes = taken_at tree_of pattern [] boxes
-
--- the bytes of a box, or only those of its content
-abbrev pub bytes_of_box : Bool → List ℕ → TreeBox → List ℕ
-bytes_of_box content file x = if content then content_of file x else piece file x.position x.length
 
 -- the bytes of all boxes at a pattern, one after the other
 abbrev pub bytes_at : Bool → Pattern → List ℕ → List ℕ

@@ -10,7 +10,7 @@ use Rattle.mp4_content.specs.FaultText.{IsFaultText}
 use Rattle.mp4_content.specs.Fields.{content_fields}
 use Rattle.mp4_content.specs.declared.content.Content.{Content}
 use Rattle.mp4_content.specs.declared.content.Content.TheVariants as contents
-use Rattle.mp4_inspect.specs.Json.{is_quicktime}
+use Rattle.mp4_content.specs.Fields.{is_quicktime}
 use Rattle.mp4_show.specs.Lines.{TextState, begun, with_colored, with_words}
 use Rattle.mp4_show.specs.TextTrace.{then_text}
 use Rattle.mp4_show.specs.Texts.{code_shown, colored}

@@ -1,8 +1,8 @@
 //! The differences of two files as lines and as JSON.
 
-use crate::differences::{Change, Side, What};
 use json::Writer;
-use mp4_check::{Part, push_path};
+use mp4_content::{Part, push_path};
+use mp4_diff::{Change, Side, What};
 use mp4_show::{Result, json_text, push_code, push_escaped, push_number};
 use mp4_shown_json::JsonSink;
 use mp4_stream::FourCC;

@@ -1,12 +1,12 @@
 //! The boxes of a file at a pattern.
 
 ghost use Rattle.std.specs.Prelude.{◌≡◌, ◌+◌, ◌++◌, ◌∷◌, [], List, IfOk, OnOk, map, if◌then◌else◌};
-ghost use Rattle.mp4_check.specs.Paths.{AreOpen, Code, entered, parts_of};
+ghost use Rattle.mp4_content.specs.Paths.{AreOpen, Code, entered, parts_of};
 ghost use Rattle.mp4_inspect.specs.Patterns.{boxes_at, fits, lifted, tree_of, trees_at};
 ghost use Rattle.mp4_walk.specs.Paths.{inside};
 
 use crate::pattern::{Pattern, fits};
-use mp4_check::BoxPaths;
+use mp4_content::BoxPaths;
 use mp4_show::Result;
 use mp4_walk::TreeBox;
 use std::alloc::Global;

@@ -1,13 +1,13 @@
 //! The command `diff`: what it reads and prints, and its exit status.
 
 use crate::change_text::{array_of, lines_of};
-use crate::differences::{Change, differ, differences};
 use crate::messages::{refuse, tell};
 use crate::outcome::{diff_status, is_silent};
 use crate::request::Diff;
 use crate::source::{Opened, Reading, how_to_read, input_file};
 use mp4_command::{Kept, MISUSE, NOT_UTF_8, escaped, unreadable};
 use mp4_content::{ShownBox, or_memory};
+use mp4_diff::{Change, differ, differences};
 use mp4_io::{Failure, Input, Output, Steady, flush, or_read, read_all, write_all};
 use std::alloc::AllocError;
 use std::fs;

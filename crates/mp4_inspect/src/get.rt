@@ -1,10 +1,11 @@
 //! The boxes at a pattern of paths, and one of their fields.
 
-ghost use Rattle.std.specs.Prelude.{◌≡◌, ◌+◌, ◌-◌, ◌<◌, ◌^◌, ℕ, ◌||◌, List, true, false, length, min};
-ghost use Rattle.std.specs.Prelude.{flat_map, IfOk, OnOk, IfSome, if◌then◌else◌, string_bytes};
+ghost use Rattle.std.specs.Prelude.{◌≡◌, ◌+◌, ◌<◌, ◌^◌, ℕ, ◌||◌, List, true, false};
+ghost use Rattle.std.specs.Prelude.{flat_map, IfOk, OnOk, IfSome, string_bytes};
 ghost use Rattle.std.specs.Io.KnownBytes.{Appends};
 ghost use Rattle.mp4_inspect.specs.Fields.{WritesFields, field_got};
-ghost use Rattle.mp4_inspect.specs.Patterns.{bytes_at, bytes_of_box, got_of, has_box};
+ghost use Rattle.mp4_content.specs.Pieces.{bytes_of_box};
+ghost use Rattle.mp4_inspect.specs.Patterns.{bytes_at, got_of, has_box};
 ghost use Rattle.mp4_inspect.specs.Json.{IsJson};
 ghost use Rattle.mp4_inspect.specs.Trees.{WritesTrees, WritesTreesJson};
 ghost use Rattle.mp4_io.specs.Ends.{is_write};
@@ -17,15 +18,12 @@ use crate::pattern::Pattern;
 use crate::program::list_file;
 use crate::tree_json::tree_json;
 use crate::tree_text::write_tree;
-use mp4_content::{Shown, or_memory};
+use mp4_content::{PIECE, Shown, or_memory, present, size_of, start_of};
 use mp4_io::{Failure, Output, or_read, write_all};
 use mp4_show::Look;
 use mp4_walk::{BoxWalk, Source, TreeBox};
 use std::alloc::Global;
 use std::io::Write;
-
-/// The number of bytes that are read and written at a time.
-pub const PIECE: u64 = 1 << 20;
 
 /// A form in which the boxes at a pattern are written.
 #[derive(Clone, Copy, Debug, PartialEq, Eq)]
@@ -115,38 +113,6 @@ fn write_pieces<S: Source, W: Write>(
         left -= count;
     }
     Ok(())
-}
-
-/// Returns the position of the bytes of `found`, or of its content if `content`.
-pub fn start_of(found: &TreeBox, content: bool) -> u64
-    ensures { result ≡ (if content then min (found.now.position + found.now.header_length) (2 ^ 64 - 1)
-        else found.now.position) }
-{
-    if content {
-        found.content_position()
-    } else {
-        found.position
-    }
-}
-
-/// Returns the number of bytes of `found`, or of its content if `content`.
-pub fn size_of(found: &TreeBox, content: bool) -> u64
-    ensures { result ≡ (if content then found.now.length - found.now.header_length else found.now.length) }
-{
-    if content {
-        found.content_length()
-    } else {
-        found.length
-    }
-}
-
-/// Returns how many of `size` bytes that begin at `start` a source of `total` bytes has.
-pub fn present(start: u64, size: u64, total: u64) -> u64
-    ensures count { result ≡ min size (total - start) }
-    ensures fits { start + result < 2 ^ 64 }
-    ensures bytes { (file : List ℕ) → total ≡ length file → piece file start result ≡ piece file start size }
-{
-    size.min(total.saturating_sub(start))
 }
 
 /// Writes the bytes of the box `found`, or only those of its content if `content`.

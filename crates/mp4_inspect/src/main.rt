@@ -6,22 +6,17 @@ ghost use Rattle.std.specs.Prelude.{◌≡◌, ◌≢◌, IfOk, IfErr, string_by
 ghost use Rattle.mp4_inspect.specs.Colors.{has_color};
 ghost use Rattle.mp4_inspect.specs.PatternText.{IsPattern, IsPatternFault};
 
-mod bytes_differ;
 mod change_text;
 mod chosen;
 mod diff;
-mod differences;
 mod field;
 mod field_lines;
 mod get;
 mod messages;
 mod outcome;
-mod pairs;
 mod pattern;
 mod program;
 mod request;
-mod row_changes;
-mod rows;
 mod source;
 mod tree_json;
 mod tree_text;

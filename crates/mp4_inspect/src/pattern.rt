@@ -7,7 +7,7 @@ ghost use Rattle.mp4_inspect.specs.PatternText.{is_anywhere, is_each, steps_text
 ghost use Rattle.mp4_inspect.specs.Patterns.{accepts, accepts_all, fits, parts_before};
 ghost use Rattle.mp4_walk.specs.Paths.{is_code};
 
-use mp4_check::Part;
+use mp4_content::Part;
 use mp4_stream::FourCC;
 use mp4_walk::{PathError, PathPart, path_code, path_index};
 use std::alloc::Global;

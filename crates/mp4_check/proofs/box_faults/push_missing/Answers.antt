@@ -3,7 +3,7 @@ use Rattle.std.specs.List.{filter_map}
 use Rattle.std.specs.declared.option.Option.{Option}
 use Rattle.mp4_check.specs.FaultValues.{Value, fault_at, values_of}
 use Rattle.mp4_check.specs.Parts.{needed}
-use Rattle.mp4_check.specs.Paths.{parts_of}
+use Rattle.mp4_content.specs.Paths.{parts_of}
 use Rattle.mp4_check.specs.Siblings.{lacks, parent_code}
 use Rattle.mp4_check.specs.declared.fault.What.{What}
 use Rattle.mp4_check.proofs.MissingParts.{all_at, missing_more}

@@ -3,7 +3,7 @@ use Rattle.std.proofs.Common.{◌≡◌, List, ◌++◌, take}
 use Rattle.std.specs.List.{filter_map}
 use Rattle.mp4_check.specs.FaultValues.{values_of}
 use Rattle.mp4_check.specs.Parts.{needed}
-use Rattle.mp4_check.specs.Paths.{AreOpen, Code, parts_of}
+use Rattle.mp4_content.specs.Paths.{AreOpen, Code, parts_of}
 use Rattle.mp4_check.specs.Siblings.{lacks, parent_code}
 use Rattle.mp4_check.proofs.MissingParts.{all_at}
 use Rattle.mp4_check.proofs.box_faults.push_missing.Given as goal

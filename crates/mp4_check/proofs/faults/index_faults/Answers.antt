@@ -1,7 +1,7 @@
 use Rattle.std.proofs.Common.{◌∙◌, ap}
 use Rattle.std.specs.declared.option.Option.{Option}
 use Rattle.mp4_check.specs.FaultValues.{fault_at}
-use Rattle.mp4_check.specs.Paths.{in_file}
+use Rattle.mp4_content.specs.Paths.{in_file}
 use Rattle.mp4_check.specs.declared.fault.What.{What}
 use Rattle.mp4_check.proofs.Outcomes.{if_some, passed_on}
 use Rattle.mp4_check.proofs.faults.index_faults.Goals as goal

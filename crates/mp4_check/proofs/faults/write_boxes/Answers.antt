@@ -1,6 +1,6 @@
 use Rattle.std.proofs.Common.{◌≡◌, ◌<◌, ◌∙◌, Some, [], ap, arith, fold, length, refl, take}
 use Rattle.mp4_check.specs.BoxFaults.{faults_of_boxes}
-use Rattle.mp4_check.specs.Paths.{entered}
+use Rattle.mp4_content.specs.Paths.{entered}
 use Rattle.mp4_check.proofs.FileSteps.{boxes_end, boxes_next, open_more}
 use Rattle.mp4_check.proofs.Outcomes.{if_is, some_at}
 use Rattle.mp4_check.proofs.ShownFaults.{first_none, form_laws}

@@ -2,7 +2,7 @@
 use Rattle.std.proofs.Common.{◌≡◌, [], drop, fold, take}
 use Rattle.std.specs.Prelude.{IfSome}
 use Rattle.mp4_check.specs.BoxFaults.{faults_of_boxes}
-use Rattle.mp4_check.specs.Paths.{AreOpen, entered}
+use Rattle.mp4_content.specs.Paths.{AreOpen, entered}
 use Rattle.mp4_check.proofs.ShownFaults.{WritesFirst}
 use Rattle.mp4_check.proofs.faults.write_boxes.Given as goal
 

@@ -1,6 +1,6 @@
 use Rattle.std.proofs.Common.{◌≡◌, ◌∙◌, Some, ap, arith, length, refl, subst, ℕ}
 use Rattle.mp4_check.specs.Indexes.{AreStarts, faults_of_indexes}
-use Rattle.mp4_check.specs.Paths.{next}
+use Rattle.mp4_content.specs.Paths.{next}
 use Rattle.mp4_check.specs.contracts.indexes.OwnReadingIndexReading.TheImpl as own
 use Rattle.mp4_check.proofs.FaultLoops.{indexes_next, indexes_written}
 use Rattle.mp4_check.proofs.Outcomes.{if_is, some_at}

@@ -6,7 +6,7 @@ use Rattle.mp4_check.specs.FaultValues.{fault_at, values_of}
 use Rattle.mp4_check.specs.Faults.{faults_in, file_of, lacks_movie, tracks_faults}
 use Rattle.mp4_check.specs.FragmentFaults.{fragment_faults}
 use Rattle.mp4_check.specs.Indexes.{index_faults}
-use Rattle.mp4_check.specs.Paths.{in_file}
+use Rattle.mp4_content.specs.Paths.{in_file}
 use Rattle.mp4_check.specs.contracts.indexes.OwnReadingIndexReading.TheImpl as own
 use Rattle.mp4_check.specs.declared.fault.What.{What}
 use Rattle.mp4_check.specs.declared.lines.Told.{Told}

@@ -1,6 +1,6 @@
 use Rattle.std.proofs.Common.{◌≡◌, ◌∙◌, Some, ap, arith, refl}
 use Rattle.mp4_check.specs.FragmentFaults.{found_at}
-use Rattle.mp4_check.specs.Paths.{next}
+use Rattle.mp4_content.specs.Paths.{next}
 use Rattle.mp4_check.proofs.FaultLoops.{moofs_next, moofs_none, moofs_written}
 use Rattle.mp4_check.proofs.ShownFaults.{form_laws}
 use Rattle.mp4_check.proofs.faults.write_fragments.Goals as goal

@@ -1,5 +1,5 @@
 use Rattle.std.proofs.Common.{◌≡◌, ◌∙◌, Some, ap, arith, refl}
-use Rattle.mp4_check.specs.Paths.{next}
+use Rattle.mp4_content.specs.Paths.{next}
 use Rattle.mp4_check.specs.TrackFaults.{value_of_facts}
 use Rattle.mp4_check.proofs.FaultLoops.{tracks_next, tracks_none, tracks_stored, tracks_written}
 use Rattle.mp4_check.proofs.Outcomes.{if_is, some_at}

@@ -3,8 +3,8 @@ use Rattle.json.specs.Print.{print}
 use Rattle.json.specs.Token.{Token}
 use Rattle.mp4_check.specs.FaultValues.{value_of}
 use Rattle.mp4_check.specs.Lines.{fault_tokens}
-use Rattle.mp4_check.specs.PathTexts.{path_shown}
-use Rattle.mp4_check.specs.declared.path.Part.{Part}
+use Rattle.mp4_content.specs.PathTexts.{path_shown}
+use Rattle.mp4_content.specs.declared.path.Part.{Part}
 use Rattle.mp4_check.proofs.Outcomes.{if_ok}
 use Rattle.mp4_show.specs.Escaped.{json_escaped}
 use Rattle.mp4_check.proofs.lines.object_of.Goals as goal

@@ -3,7 +3,7 @@ use Rattle.std.specs.BTreeMap.{get}
 use Rattle.std.specs.Ordering.{nat_cmp}
 use Rattle.mp4_check.specs.FaultValues.{values_of}
 use Rattle.mp4_check.specs.FragmentFaults.{found_at, trafs_of}
-use Rattle.mp4_check.specs.Paths.{next}
+use Rattle.mp4_content.specs.Paths.{next}
 use Rattle.mp4_check.specs.SampleFaults.{AreTrafsLooked, kinds_at}
 use Rattle.mp4_check.specs.declared.samples.kind.Kind.{Kind}
 use Rattle.mp4_check.proofs.Outcomes.{if_is, some_at}

@@ -1,6 +1,6 @@
 use Rattle.std.proofs.Common.{◌≡◌, ◌∙◌, Some, ap, arith, refl}
 use Rattle.mp4_check.specs.FaultValues.{values_of}
-use Rattle.mp4_check.specs.Paths.{next}
+use Rattle.mp4_content.specs.Paths.{next}
 use Rattle.mp4_check.proofs.Outcomes.{if_is, some_at}
 use Rattle.mp4_check.proofs.SampleLoops.{all_kinds, all_tracks, more_kinds, no_kinds, no_tracks, one_track}
 use Rattle.mp4_check.proofs.sample_faults.tracks_samples.Goals as goal

@@ -1,6 +1,6 @@
 -- The earlier boxes are entered, and those of them at the pattern are chosen.
 use Rattle.std.proofs.Common.{◌≡◌, ◌++◌, [], drop, fold, take}
-use Rattle.mp4_check.specs.Paths.{AreOpen, entered}
+use Rattle.mp4_content.specs.Paths.{AreOpen, entered}
 use Rattle.mp4_inspect.specs.Patterns.{boxes_at, first_of, taken_at}
 use Rattle.mp4_inspect.proofs.chosen.boxes_at.Given as goal
 

@@ -1,6 +1,6 @@
 -- The earlier boxes are entered, and the trees of those at the pattern are appended.
 use Rattle.std.proofs.Common.{◌≡◌, ◌++◌, [], drop, fold, take}
-use Rattle.mp4_check.specs.Paths.{AreOpen, entered}
+use Rattle.mp4_content.specs.Paths.{AreOpen, entered}
 use Rattle.mp4_inspect.specs.Patterns.{taken_at, tree_of, trees_at}
 use Rattle.mp4_inspect.proofs.chosen.trees_at.Given as goal
 

@@ -2,8 +2,8 @@ use Rattle.std.proofs.Common.{◌≡◌, ◌∙◌, ◌<◌, ◌^◌, List, leng
 use Rattle.std.specs.Prelude.{OnOk}
 use Rattle.std.specs.Io.KnownBytes.{Appends}
 use Rattle.mp4_lemmas.proofs.Outcomes.{both_known}
-use Rattle.mp4_inspect.specs.Patterns.{bytes_of_box}
-use Rattle.mp4_inspect.proofs.PieceSteps.{box_bytes}
+use Rattle.mp4_content.specs.Pieces.{bytes_of_box}
+use Rattle.mp4_content.proofs.PieceSteps.{box_bytes}
 use Rattle.mp4_inspect.proofs.get.write_box.Goals as goal
 use Rattle.mp4_walk.specs.Source.{piece}
 

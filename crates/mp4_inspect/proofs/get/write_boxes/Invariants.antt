@@ -2,7 +2,7 @@
 use Rattle.std.proofs.Common.{◌≡◌, take}
 use Rattle.std.specs.Prelude.{IfSome, flat_map}
 use Rattle.std.specs.Io.KnownBytes.{Appends}
-use Rattle.mp4_inspect.specs.Patterns.{bytes_of_box}
+use Rattle.mp4_content.specs.Pieces.{bytes_of_box}
 use Rattle.mp4_inspect.proofs.get.write_boxes.Given as goal
 
 abbrev pub invariant-boxes : goal.invariant-boxes

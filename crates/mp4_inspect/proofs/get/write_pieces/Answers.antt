@@ -1,6 +1,6 @@
 use Rattle.std.proofs.Common.{◌≡◌, ◌≤◌, ◌∙◌, Some, ap, arith, rules}
 use Rattle.mp4_lemmas.proofs.Outcomes.{both_known}
-use Rattle.mp4_inspect.proofs.PieceSteps.{piece_next}
+use Rattle.mp4_content.proofs.PieceSteps.{piece_next}
 use Rattle.mp4_inspect.proofs.get.write_pieces.Goals as goal
 use Rattle.mp4_walk.specs.Source.{piece}
 use Rattle.mp4_walk.specs.Walk.{Walk}

@@ -1,6 +1,0 @@
-use Rattle.std.proofs.Common.{◌≡◌, take}
-use Rattle.mp4_check.specs.Paths.{in_fragment}
-use Rattle.mp4_check.proofs.path.in_fragment.Given as goal
-
-abbrev pub invariant-loop-code : goal.invariant-loop-code
-invariant-loop-code l = l.path.items ≡ in_fragment l.moof l.traf (take l.code-index l.codes)

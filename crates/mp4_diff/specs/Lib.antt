@@ -1,0 +1,5 @@
+pub mod BytesDiffer
+pub mod Differences
+pub mod Pairs
+pub mod RowChanges
+pub mod Rows

@@ -1,9 +1,0 @@
--- The earlier changes have no difference.
-use Rattle.std.proofs.Common.{◌≡◌, [], take}
-use Rattle.mp4_inspect.specs.Differences.{places_of}
-use Rattle.mp4_inspect.proofs.differences.differ.Given as goal
-
-abbrev pub invariant-changes : goal.invariant-changes
-invariant-changes l = record {
-  so_far : places_of (take l.index l.changes) ≡ [];
-}
