@@ -58,8 +58,6 @@ LONGEST = 33_000
 # other tests need not run.
 NAMED = [ROWS, "test_boxes"]
 TEST_CRATES = [*NAMED, "mp4_vectors"]
-# A crate with tests beside it. Only these see changes of its boxes.
-OWN = "example_boxes"
 # The crates of boxes that no other box uses: their changes are made together, and with no others.
 MORE = "mp4_extra"
 # The status of `rt try` where a test stops at a fault, such as an index out of bounds.
@@ -116,7 +114,7 @@ class Change:
         """Returns the crates whose tests can see the change, the likeliest first."""
         if self.tests:
             return [self.tests.split("::")[0]]
-        return [OWN] if self.is_of(OWN) else TEST_CRATES
+        return TEST_CRATES
 
     def caught_by(self, failed):
         """Returns those of the failed tests that catch the change: all, or those that are made for it."""

@@ -27,7 +27,7 @@ CALLS = {
 # The calls for the boxes of mp4_extra.
 read_all_boxes = partial(read_boxes, keep=True, more=True)
 MORE_CALLS = {"declared box": (read_more, 6), "all boxes": (read_all_boxes, 10)}
-# The codes of the boxes of test_boxes, which test_probe reads as declared boxes, and the slow reader doesn't.
+# The codes of the boxes of example_boxes::shapes, which test_probe reads as declared boxes. The slow reader doesn't.
 TEST_CODES = (b"lins", b"nest", b"numb", b"opts", b"rang", b"runs", b"strs", b"trep", b"outr")
 # The numbers of the texts for the written bytes of trees, for the places of boxes, and for the structure of trees.
 WRITTEN_TREES, PLACES, STRUCTURE = 8, 12, 13

@@ -1,7 +1,7 @@
 //! For authors of box types and callers of the codec. `pdin`, `fiel` and `ssix` show how to declare boxes, and
-//! `SegmentBox` is an enum of `ssix` and boxes of the codec: `docs/OWN-BOX.md` explains them. The other modules have
-//! callers of the codec with their contracts, and a box type without a declaration. The CALLING.md of most crates of
-//! the codec quotes one of the callers.
+//! `SegmentBox` is an enum of `ssix` and boxes of the codec: `docs/OWN-BOX.md` explains them. `shapes` has boxes with
+//! more shapes. The other modules have callers of the codec with their contracts, and a box type without a declaration.
+//! The CALLING.md of most crates of the codec quotes one of the callers. `test_boxes` has the tests.
 #![tactic(auto)]
 
 ghost use Rattle.std.specs.Prelude.{◌≡◌, ◌++◌, List, Ok, IfOk, OnErr};
@@ -22,6 +22,7 @@ pub mod numbers;
 mod pdin;
 pub mod references;
 mod segment;
+pub mod shapes;
 pub mod sound;
 mod ssix;
 mod ssix_or_any;
@@ -35,9 +36,6 @@ pub use segment::SegmentBox;
 pub use ssix::{SSIX, Ssix, SsixBox, SsixRange, Subsegment};
 pub use ssix_or_any::SsixOrAny;
 use std::alloc::Global;
-
-#[cfg(test)]
-mod tests;
 
 /// Appends the boxes of a file, in their normal form.
 pub fn append_normal(alloc: Global, file: &[u8], out: &mut Vec<u8>) -> Result<u64>

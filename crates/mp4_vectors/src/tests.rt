@@ -5,6 +5,7 @@ mod cursor;
 mod cuts;
 mod entries;
 mod esds;
+mod files;
 mod fixed_points;
 mod flat;
 mod ftyp;

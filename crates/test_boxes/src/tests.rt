@@ -21,6 +21,7 @@ mod lists;
 mod memory;
 mod metadata;
 mod mp4a;
+mod own_boxes;
 mod streams;
 mod stsd;
 mod texts;

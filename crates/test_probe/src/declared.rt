@@ -4,6 +4,10 @@ ghost use Rattle.std.specs.Prelude.{◌≤◌};
 
 use crate::structure::{Leaf, Level};
 use crate::{push_record, show};
+use example_boxes::shapes::{
+    LINS, LinesBox, NEST, NUMB, NestedBox, NumbersBox, OPTS, OUTR, OptionsBox, OuterBox, RANG,
+    RUNS, RangeBox, RunsBox, STRS, StringsBox, TREP, TrepBox,
+};
 use mp4_box_tree::{AllBoxes, BoxTree, Container, Node};
 use mp4_compose::{ChildBox, Lossless, StableBox};
 use mp4_extra::ExtraBox;
@@ -13,10 +17,6 @@ use mp4_stream::{
 use std::alloc::{AllocError, Global};
 use std::fmt::Debug;
 use std::marker::PhantomData;
-use test_boxes::{
-    LINS, LinesBox, NEST, NUMB, NestedBox, NumbersBox, OPTS, OUTR, OptionsBox, OuterBox, RANG,
-    RUNS, RangeBox, RunsBox, STRS, StringsBox, TREP, TrepBox,
-};
 
 /// Appends two records: what was read as a box, with the cursor's position, and what this box is written in.
 fn show_read<B: WriteBox + Debug>(

@@ -1,6 +1,7 @@
 //! Calls of the laws at concrete types. The calls do nothing. Their proofs show that these types keep the traits.
 
 use example_boxes::mark::MarkBox;
+use example_boxes::{SegmentBox, SsixBox};
 use mp4_stream::laws::{
     begins_with_header, boxes_follow_frames, cut_at_a_border, cut_inside_a_box, equal_boxes,
     equal_streams, has_normal_form, has_own_name, have_same_bytes, is_read_back,
@@ -157,6 +158,13 @@ fn laws_hold_of_lists_and_of_a_type_from_outside() {
     call_laws_of_lists::<MarkBox>();
     call_laws_of_lists::<KeptBox>();
     spans_follow_frames();
+}
+
+#[test]
+fn laws_hold_of_the_box_and_of_lists() {
+    call_laws_of_box::<SsixBox>();
+    call_laws_of_lists::<SegmentBox>();
+    call_laws_of_read_lists::<SegmentBox>();
 }
 
 #[test]

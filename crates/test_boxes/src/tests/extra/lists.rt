@@ -1,7 +1,7 @@
 //! Boxes with lists. A function for each box makes it, writes it and returns the ending.
 
 use crate::tests::extra::{Outcome, UNFIT, WRITTEN, bytes_of, declared_ending};
-use crate::{Group, Line, Lines, Moment, Nested, Packed, Runs, Strings};
+use example_boxes::shapes::{Group, Line, Lines, Moment, Nested, Packed, Runs, Strings};
 use mp4_declared::OfType;
 use mp4_extra_pictures::av1c::{Av1Config, Av1c};
 use mp4_extra_pictures::colr::{Colr, NCLX};

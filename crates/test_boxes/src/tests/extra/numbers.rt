@@ -1,7 +1,7 @@
 //! Boxes without lists.
 
 use crate::tests::extra::{Ending, declared_ending, ending_of};
-use crate::{Numbers, Options, Packed, Range, RangeBox};
+use example_boxes::shapes::{Numbers, Options, Packed, Range, RangeBox};
 use mp4_declared::OfType;
 use mp4_extra_pictures::colr::{Colr, Nclx};
 use mp4_extra_samples::cslg::Cslg;

@@ -1,7 +1,7 @@
 //! Boxes that hold boxes.
 
 use crate::tests::extra::{Ending, bytes_of, declared_ending, ending_of};
-use crate::{Inner, Outer, Trep};
+use example_boxes::shapes::{Inner, Outer, Trep};
 use mp4_box_tree::DeclaredContainer;
 use mp4_stream::KeptBox;
 use mp4_stream::author::Declared;

@@ -1,7 +1,7 @@
 //! The bytes of `pdin` (ISO/IEC 14496-12, 8.1.3).
 
-use crate::tests::{ends_early, has_fault, is_in, is_read, is_writable};
-use crate::{Pdin, PdinBox, PdinEntry};
+use crate::tests::own_boxes::{ends_early, has_fault, is_in, is_read, is_writable};
+use example_boxes::{Pdin, PdinBox, PdinEntry};
 use mp4_stream::Result as Made;
 use std::alloc::Global;
 use std::test::Fail;

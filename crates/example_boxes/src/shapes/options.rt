@@ -1,6 +1,6 @@
 //! A box with fields that depend on flags. No standard defines it.
 
-ghost use Rattle.test_boxes.specs.declared.options.TheConstants.{OPTS};
+ghost use Rattle.example_boxes.specs.declared.shapes.options.TheConstants.{OPTS};
 ghost use Rattle.std.proofs.Common.{refl, lit<};
 ghost use Rattle.mp4_stream.specs.Author.{layout_of};
 
@@ -31,7 +31,7 @@ pub struct Options {
 pub type OptionsShape = Full<1, (If<IfFlags<1>, U32>, If<IfFlags<0x80_0002>, U16>, Last<U8>)>;
 
 impl DeclaredBox for Options {
-    ghost use Rattle.test_boxes.specs.contracts.options.Options.{struct};
+    ghost use Rattle.example_boxes.specs.contracts.shapes.options.Options.{struct};
 
     type Shape = OptionsShape;
 

@@ -1,6 +1,6 @@
 //! A box with a `Check` and a field that is not written. No standard defines it.
 
-ghost use Rattle.test_boxes.specs.declared.checked.TheConstants.{RANG};
+ghost use Rattle.example_boxes.specs.declared.shapes.checked.TheConstants.{RANG};
 ghost use Rattle.std.specs.Prelude.{nat_le};
 ghost use Rattle.mp4_stream.specs.Author.{refl, lit<};
 
@@ -21,7 +21,7 @@ pub struct Range {
 }
 
 impl DeclaredBox for Range {
-    ghost use Rattle.test_boxes.specs.declared.checked.Range.{Range};
+    ghost use Rattle.example_boxes.specs.declared.shapes.checked.Range.{Range};
 
     type Shape = (U16, Last<U16>);
 

@@ -1,6 +1,6 @@
 //! Boxes of entries with different lengths, which have such entries inside. No standard defines them.
 
-ghost use Rattle.test_boxes.specs.declared.nested.TheConstants.{NEST, LINS};
+ghost use Rattle.example_boxes.specs.declared.shapes.nested.TheConstants.{NEST, LINS};
 ghost use Rattle.mp4_stream.specs.Author.{layout_of, exact_layout_of, some_first, refl, lit<};
 
 use mp4_stream::declaring::*;
@@ -21,7 +21,7 @@ pub struct Moment {
 }
 
 impl DeclaredEntry for Moment {
-    ghost use Rattle.test_boxes.specs.contracts.nested.Moment.{struct};
+    ghost use Rattle.example_boxes.specs.contracts.shapes.nested.Moment.{struct};
 
     type Shape = (U8, Last<Time>);
 
@@ -48,7 +48,7 @@ pub struct Group {
 }
 
 impl DeclaredEntry for Group {
-    ghost use Rattle.test_boxes.specs.contracts.nested.Group.{struct};
+    ghost use Rattle.example_boxes.specs.contracts.shapes.nested.Group.{struct};
 
     type Shape = (Bytes<U8>, Last<Each<U16, Moment>>);
 
@@ -79,7 +79,7 @@ pub struct Nested {
 }
 
 impl DeclaredBox for Nested {
-    ghost use Rattle.test_boxes.specs.contracts.nested.Nested.{struct};
+    ghost use Rattle.example_boxes.specs.contracts.shapes.nested.Nested.{struct};
 
     type Shape = Full<2, (Each<U32, Group>, Last<U8>)>;
 
@@ -118,7 +118,7 @@ pub struct Line {
 }
 
 impl DeclaredEntry for Line {
-    ghost use Rattle.test_boxes.specs.contracts.nested.Line.{struct};
+    ghost use Rattle.example_boxes.specs.contracts.shapes.nested.Line.{struct};
 
     type Shape = (Each<U8, Moment>, (Terminated, Last<U16>));
 
@@ -150,7 +150,7 @@ pub struct Lines {
 }
 
 impl DeclaredBox for Lines {
-    ghost use Rattle.test_boxes.specs.contracts.nested.Lines.{struct};
+    ghost use Rattle.example_boxes.specs.contracts.shapes.nested.Lines.{struct};
 
     type Shape = Full<2, Last<EachToEnd<Line>>>;
 

@@ -1,6 +1,6 @@
 //! A box with boxes after its fields: the track extension properties box.
 
-ghost use Rattle.test_boxes.specs.declared.parents.TheConstants.{TREP};
+ghost use Rattle.example_boxes.specs.declared.shapes.parents.TheConstants.{TREP};
 ghost use Rattle.std.proofs.Common.{refl, lit<};
 ghost use Rattle.mp4_stream.specs.Author.{layout_of};
 
@@ -23,7 +23,7 @@ pub struct Trep {
 }
 
 impl DeclaredBox for Trep {
-    ghost use Rattle.test_boxes.specs.contracts.parents.Trep.{struct};
+    ghost use Rattle.example_boxes.specs.contracts.shapes.parents.Trep.{struct};
 
     type Shape = Full<1, Last<U32>>;
 

@@ -1,6 +1,6 @@
 //! A box of numbers of each kind, without version and flags. No standard defines it.
 
-ghost use Rattle.test_boxes.specs.declared.numbers.TheConstants.{NUMB, WIDTHS};
+ghost use Rattle.example_boxes.specs.declared.shapes.numbers.TheConstants.{NUMB, WIDTHS};
 ghost use Rattle.std.proofs.Common.{refl, lit<};
 ghost use Rattle.mp4_stream.specs.Author.{layout_of, packed, fields_of};
 
@@ -27,7 +27,7 @@ pub struct Packed {
 const WIDTHS: [u8; 3] = [1, 5, 10];
 
 impl EntryLayout<3, 2> for Packed {
-    ghost use Rattle.test_boxes.specs.contracts.numbers.Packed.{struct};
+    ghost use Rattle.example_boxes.specs.contracts.shapes.numbers.Packed.{struct};
 
     ghost layout = { packed (fields_of WIDTHS) struct.as_values (λ v. struct.make v tt) (λ _. refl) (λ _. refl) refl };
 
@@ -72,7 +72,7 @@ pub type Signed = (I8, I16, I32, Last<Bits<Packed, 3, 2>>);
 pub type NumbersShape = (U8, U16, U24, Signed);
 
 impl DeclaredBox for Numbers {
-    ghost use Rattle.test_boxes.specs.contracts.numbers.Numbers.{struct};
+    ghost use Rattle.example_boxes.specs.contracts.shapes.numbers.Numbers.{struct};
 
     type Shape = NumbersShape;
 

@@ -1,8 +1,7 @@
-//! Tests of facts that no contract states: the bytes of boxes. They were worked out from the standards, not printed by
-//! this code.
+//! Tests of the boxes of `example_boxes` that docs/OWN-BOX.md explains, by their bytes. These were worked out from the
+//! standards, not printed by this code.
 
 mod fiel;
-mod laws;
 mod lists;
 mod pdin;
 mod ssix;

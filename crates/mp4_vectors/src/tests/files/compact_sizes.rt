@@ -1,6 +1,6 @@
 //! Tests of a track whose sizes are in an `stz2`.
 
-use crate::tests::track::{FILE, Reason, fault_of};
+use crate::tests::files::track::{FILE, Reason, fault_of};
 use mp4_frame::FourCC;
 use mp4_movie::Movie;
 use std::alloc::Global;

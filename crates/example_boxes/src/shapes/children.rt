@@ -1,6 +1,6 @@
 //! A box with a box among its fields. No standard defines it.
 
-ghost use Rattle.test_boxes.specs.declared.children.TheConstants.{INNR, OUTR};
+ghost use Rattle.example_boxes.specs.declared.shapes.children.TheConstants.{INNR, OUTR};
 ghost use Rattle.std.proofs.Common.{refl, lit<};
 ghost use Rattle.mp4_stream.specs.Author.{layout_of};
 
@@ -23,7 +23,7 @@ pub struct Inner {
 }
 
 impl DeclaredBox for Inner {
-    ghost use Rattle.test_boxes.specs.contracts.children.Inner.{struct};
+    ghost use Rattle.example_boxes.specs.contracts.shapes.children.Inner.{struct};
 
     type Shape = (Bytes<U8>, Last<U16>);
 
@@ -60,7 +60,7 @@ pub struct Outer {
 }
 
 impl DeclaredBox for Outer {
-    ghost use Rattle.test_boxes.specs.contracts.children.Outer.{struct};
+    ghost use Rattle.example_boxes.specs.contracts.shapes.children.Outer.{struct};
 
     type Shape = (U8, Child<Inner>, Last<U16>);
 

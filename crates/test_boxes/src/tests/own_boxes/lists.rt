@@ -1,8 +1,8 @@
 //! Lists with an `ssix` or a `fiel` among other boxes.
 
-use crate::tests::is_writable;
-use crate::tests::ssix::{BYTES, TOO_MANY, changed, index};
-use crate::{FIEL, Fiel, FielBox, SSIX, SegmentBox};
+use crate::tests::own_boxes::is_writable;
+use crate::tests::own_boxes::ssix::{BYTES, TOO_MANY, changed, index};
+use example_boxes::{FIEL, Fiel, FielBox, SSIX, SegmentBox};
 use mp4_stream::{
     AnyBox, BoxType, ByteCursor, Either, Error, KeptBox, MfhdBox, Mp4Box, OtherBox, Result as Made,
     StreamBox, TfdtBox, TrunBox, read_boxes_as, write_boxes,

@@ -2,8 +2,8 @@
 
 ghost use Rattle.std.specs.Prelude.{◌<◌};
 
-use crate::tests::{ends_early, has_fault, is_in, is_read, is_writable};
-use crate::{Ssix, SsixBox, SsixRange, Subsegment};
+use crate::tests::own_boxes::{ends_early, has_fault, is_in, is_read, is_writable};
+use example_boxes::{Ssix, SsixBox, SsixRange, Subsegment};
 use mp4_stream::Result as Made;
 use std::alloc::Global;
 use std::test::Fail;

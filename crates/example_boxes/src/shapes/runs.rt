@@ -1,10 +1,10 @@
 //! A box of bytes, rows, entries and further bytes up to its end. No standard defines it.
 
-ghost use Rattle.test_boxes.specs.declared.runs.TheConstants.{RUNS};
+ghost use Rattle.example_boxes.specs.declared.shapes.runs.TheConstants.{RUNS};
 ghost use Rattle.std.proofs.Common.{refl, lit<};
 ghost use Rattle.mp4_stream.specs.Author.{layout_of};
 
-use crate::numbers::Packed;
+use crate::shapes::numbers::Packed;
 use mp4_stream::author::{
     Bytes, Declared, DeclaredBox, Last, List, Rest, Rows, Shape, ShapeVisitor, U8, U16,
 };
@@ -30,7 +30,7 @@ pub struct Runs {
 pub type RunsShape = (Bytes<U8>, Rows<U16, 3>, List<U8, Packed, 3, 2>, Last<Rest>);
 
 impl DeclaredBox for Runs {
-    ghost use Rattle.test_boxes.specs.contracts.runs.Runs.{struct};
+    ghost use Rattle.example_boxes.specs.contracts.shapes.runs.Runs.{struct};
 
     type Shape = RunsShape;
 

@@ -1,6 +1,6 @@
 //! A box of strings. No standard defines it.
 
-ghost use Rattle.test_boxes.specs.declared.strings.TheConstants.{STRS};
+ghost use Rattle.example_boxes.specs.declared.shapes.strings.TheConstants.{STRS};
 ghost use Rattle.mp4_stream.specs.Author.{layout_of, refl, lit<};
 
 use mp4_stream::declaring::*;
@@ -23,7 +23,7 @@ pub struct Strings {
 pub type StringsShape = (Terminated, Pascal<4>, Last<Terminated>);
 
 impl DeclaredBox for Strings {
-    ghost use Rattle.test_boxes.specs.contracts.strings.Strings.{struct};
+    ghost use Rattle.example_boxes.specs.contracts.shapes.strings.Strings.{struct};
 
     type Shape = StringsShape;
 

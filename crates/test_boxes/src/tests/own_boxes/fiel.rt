@@ -1,7 +1,7 @@
 //! The bytes of `fiel`.
 
-use crate::tests::{ends_early, is_in};
-use crate::{Fiel, FielBox};
+use crate::tests::own_boxes::{ends_early, is_in};
+use example_boxes::{Fiel, FielBox};
 use std::test::Fail;
 
 /// Interlaced video. The size is 10.

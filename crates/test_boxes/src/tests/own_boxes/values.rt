@@ -1,7 +1,7 @@
 //! A box as a value: a change, a clone, `==`, `Debug` and the default.
 
-use crate::tests::ssix::index;
-use crate::{FIEL, Fiel, FielBox, SsixBox, SsixRange, set_flags};
+use crate::tests::own_boxes::ssix::index;
+use example_boxes::{FIEL, Fiel, FielBox, SsixBox, SsixRange, set_flags};
 use mp4_stream::{Result as Made, TryClone};
 use std::test::Fail;
 
