@@ -1,10 +1,10 @@
 //! Tests of the headers of boxes, and of version and flags.
 
 use mp4_stream::{
-    BoxHeader, BoxType, ByteCursor, Error, HEADER_EXT_SIZE, HEADER_SIZE, read_box_header_ext,
+    BoxHeader, BoxType, ByteCursor, HEADER_EXT_SIZE, HEADER_SIZE, read_box_header_ext,
     write_box_header_ext, write_zeros,
 };
-use std::alloc::Global;
+use std::alloc::{AllocError, Global};
 use std::test::Fail;
 use test_shared::helpers::{Kind, kind_of};
 
@@ -47,24 +47,15 @@ fn headers_are_read(rt: HostRuntime) {
     }
 }
 
-/// Returns the bytes of the header of a `free` of this size, if their number is the one that writing returns.
-fn written(alloc: Global, size: u64) -> Result<Vec<u8>, Error> {
+/// Returns whether the header of a `free` of this size is written as `bytes`, and writing returns their number.
+fn is_written(alloc: Global, size: u64, bytes: &[u8]) -> bool {
     let mut out = Vec::new(alloc);
-    let count = BoxHeader::new(BoxType::FreeBox, size).write(&mut out)?;
-    if count == out.len() as u64 {
-        Ok(out)
-    } else {
-        Err(Error::IoError)
-    }
-}
-
-/// Returns whether the header of a `free` of this size is written as `bytes`.
-fn is_written(alloc: Global, size: u64, bytes: &[u8]) -> Result<bool, Error> {
-    Ok(written(alloc, size)?.as_slice() == bytes)
+    let outcome = BoxHeader::new(BoxType::FreeBox, size).write(&mut out);
+    matches!(outcome, Ok(count) if count == bytes.len() as u64) && out.as_slice() == bytes
 }
 
 /// Returns whether writing the header of a `free` of this size is invalid data and leaves the vector unchanged.
-fn is_too_large(alloc: Global, size: u64) -> Result<bool, Error> {
+fn is_too_large(alloc: Global, size: u64) -> Result<bool, AllocError> {
     let mut out = [9].to_vec(alloc)?;
     let outcome = BoxHeader::new(BoxType::FreeBox, size).write(&mut out);
     Ok(kind_of(&outcome) == Kind::Invalid && out.as_slice() == [9].as_slice())
@@ -74,10 +65,12 @@ fn is_too_large(alloc: Global, size: u64) -> Result<bool, Error> {
 fn headers_are_written(rt: HostRuntime) -> Result<(), Fail> {
     let alloc = rt.alloc();
     let largest = b"\0\0\0\x01free\xff\xff\xff\xff\xff\xff\xff\xff";
-    assert!(rt; is_written(alloc, 8, b"\0\0\0\x08free")?);
-    assert!(rt; is_written(alloc, 0xffff_ffff, b"\xff\xff\xff\xfffree")?);
-    assert!(rt; is_written(alloc, 1 << 32, b"\0\0\0\x01free\0\0\0\x01\0\0\0\x08")?);
-    assert!(rt; is_written(alloc, u64::MAX - 8, largest)?);
+    assert!(rt;
+        is_written(alloc, 8, b"\0\0\0\x08free")
+            && is_written(alloc, 0xffff_ffff, b"\xff\xff\xff\xfffree")
+            && is_written(alloc, 1 << 32, b"\0\0\0\x01free\0\0\0\x01\0\0\0\x08")
+            && is_written(alloc, u64::MAX - 8, largest)
+    );
     assert!(rt; is_too_large(alloc, u64::MAX - 7)?);
     Ok(())
 }
@@ -96,19 +89,18 @@ fn refuses_wide_flags(alloc: Global) -> bool {
 }
 
 /// Returns whether a version, flags and three zeros are written as `bytes`.
-fn writes_version_and_flags(alloc: Global, bytes: &[u8]) -> Result<bool, Error> {
+fn writes_version_and_flags(alloc: Global, bytes: &[u8]) -> bool {
     let mut out = Vec::new(alloc);
-    let count = write_box_header_ext(&mut out, 1, (1 << 24) - 1)?;
-    write_zeros(&mut out, 3)?;
-    Ok(count == 4 && out.as_slice() == bytes)
+    matches!(write_box_header_ext(&mut out, 1, (1 << 24) - 1), Ok(4))
+        && write_zeros(&mut out, 3).is_ok()
+        && out.as_slice() == bytes
 }
 
 #[test]
-fn version_and_flags_are_read_and_written(rt: HostRuntime) -> Result<(), Fail> {
+fn version_and_flags_are_read_and_written(rt: HostRuntime) {
     let bytes = b"\x01\xff\xff\xff\0\0\0";
     assert!(rt; (HEADER_SIZE, HEADER_EXT_SIZE) == (8, 4));
     assert!(rt; reads_version_and_flags(bytes));
     assert!(rt; refuses_wide_flags(rt.alloc()));
-    assert!(rt; writes_version_and_flags(rt.alloc(), bytes)?);
-    Ok(())
+    assert!(rt; writes_version_and_flags(rt.alloc(), bytes));
 }

@@ -2,14 +2,14 @@
 
 use linked_list_allocator::LocalHeap;
 use mp4_stream::{AnyBox, Error, WriteBox, write_boxes};
-use std::alloc::Global;
+use std::alloc::{AllocError, Global};
 use std::test::Fail;
 use test_shared::helpers::{Kind, kind_of};
 use test_shared::vectors::{FIRST_VECTORS, SECOND_VECTORS, Vector};
 
 /// Writes `original` with a heap that has no memory left. Returns the kind of the outcome, and whether nothing was
 /// written.
-fn write_over_none<B: WriteBox>(alloc: Global, original: &B) -> Result<(Kind, bool), Error> {
+fn write_over_none<B: WriteBox>(alloc: Global, original: &B) -> Result<(Kind, bool), AllocError> {
     let heap = LocalHeap::new(alloc, 16)?;
     let _all = Vec::from_slice(&heap, &[7])?;
     let mut out = Vec::new(&heap);
@@ -23,47 +23,56 @@ fn write_over_one<B: WriteBox>(
     alloc: Global,
     original: &B,
     bytes: &[u8],
-) -> Result<(Kind, bool), Error> {
+) -> Result<(Kind, bool), AllocError> {
     let heap = LocalHeap::new(alloc, bytes.len())?;
     let mut out = Vec::new(&heap);
     let outcome = original.write_box(&mut out);
     Ok((kind_of(&outcome), out.as_slice() == bytes))
 }
 
-/// Writes the box in `made` with a full heap, and with a heap that has memory for `bytes`. Returns both outcomes.
-fn write_over_two<B: WriteBox + Drop>(
+/// Returns whether writing `original` is out of memory with a full heap, and succeeds with one that has memory for
+/// `bytes`.
+fn is_refused_and_written<B: WriteBox>(alloc: Global, original: &B, bytes: &[u8]) -> bool {
+    write_over_none(alloc, original) == Ok((Kind::Memory, true))
+        && write_over_one(alloc, original, bytes) == Ok((Kind::Ok, true))
+}
+
+/// Returns whether there is a box in `made`, and `is_refused_and_written` holds for it.
+fn takes_one_block<B: WriteBox + Drop>(
     alloc: Global,
     made: Result<B, Error>,
     bytes: &[u8],
-) -> Result<[(Kind, bool); 2], Error> {
-    let original = made?;
-    let none = write_over_none(alloc, &original)?;
-    let one = write_over_one(alloc, &original, bytes)?;
-    Ok([none, one])
+) -> bool {
+    match made {
+        Ok(original) => is_refused_and_written(alloc, &original, bytes),
+        Err(_) => false,
+    }
 }
 
 /// Returns whether writing each vector is out of memory with the full heap, and succeeds with the other one.
-fn are_written_at_once<V: Vector>(alloc: Global, vectors: &[V]) -> Result<bool, Error> {
+fn are_written_at_once<V: Vector>(alloc: Global, vectors: &[V]) -> bool {
     for vector in vectors {
-        let found = write_over_two(alloc, vector.make(alloc), vector.bytes())?;
-        if found != [(Kind::Memory, true), (Kind::Ok, true)] {
-            return Ok(false);
+        if !takes_one_block(alloc, vector.make(alloc), vector.bytes()) {
+            return false;
         }
     }
-    Ok(true)
+    true
 }
 
 /// The heap has memory for one request, so a second one would be refused.
 #[test]
-fn a_write_takes_one_block(rt: HostRuntime) -> Result<(), Fail> {
-    assert!(rt; are_written_at_once(rt.alloc(), &FIRST_VECTORS)?);
-    assert!(rt; are_written_at_once(rt.alloc(), &SECOND_VECTORS)?);
-    Ok(())
+fn a_write_takes_one_block(rt: HostRuntime) {
+    assert!(rt; are_written_at_once(rt.alloc(), &FIRST_VECTORS));
+    assert!(rt; are_written_at_once(rt.alloc(), &SECOND_VECTORS));
 }
 
 /// Writes a list of boxes with a heap of `room` bytes. Returns the kind of the outcome and the number of bytes that
 /// were written.
-fn write_list_over(alloc: Global, boxes: &[AnyBox], room: usize) -> Result<(Kind, usize), Error> {
+fn write_list_over(
+    alloc: Global,
+    boxes: &[AnyBox],
+    room: usize,
+) -> Result<(Kind, usize), AllocError> {
     let heap = LocalHeap::new(alloc, room)?;
     let mut out = Vec::new(&heap);
     let outcome = write_boxes(boxes, &mut out);

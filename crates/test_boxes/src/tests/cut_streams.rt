@@ -3,8 +3,8 @@
 
 use super::lists::list_from;
 use super::streams::{kind_and_count, read_stream};
-use mp4_stream::{ByteCursor, Error, KeptBox, read_boxes_as};
-use std::alloc::Global;
+use mp4_stream::{ByteCursor, KeptBox, read_boxes_as};
+use std::alloc::{AllocError, Global};
 use std::test::Fail;
 use test_shared::helpers::Kind;
 use test_shared::vectors::{FIRST_VECTORS, SECOND_VECTORS, Vector};
@@ -19,7 +19,7 @@ struct Cuts {
 
 impl Cuts {
     /// Appends `vectors` to the stream, which has `front` boxes.
-    fn append<V: Vector>(&mut self, front: usize, vectors: &[V]) -> Result<(), Error> {
+    fn append<V: Vector>(&mut self, front: usize, vectors: &[V]) -> Result<(), AllocError> {
         for (place, vector) in vectors.iter().enumerate() {
             self.counts.push(Some(front.saturating_add(place)))?;
             for _ in 1..vector.bytes().len() {
@@ -33,7 +33,7 @@ impl Cuts {
 
 /// Returns the stream of all vectors. For each cut, up to the whole stream, returns the number of boxes before it, or
 /// `None` if it is inside a box.
-fn all_cuts(alloc: Global) -> Result<(Vec<u8>, Vec<Option<usize>>), Error> {
+fn all_cuts(alloc: Global) -> Result<(Vec<u8>, Vec<Option<usize>>), AllocError> {
     let mut cuts = Cuts {
         stream: Vec::new(alloc),
         counts: Vec::new(alloc),
@@ -79,7 +79,7 @@ fn keep_stream(alloc: Global, bytes: &[u8]) -> (Kind, usize, u64) {
 }
 
 /// Returns the first cut at which the call `way` has another result than `expected_of`, if there is one.
-fn first_wrong_cut(alloc: Global, way: Way) -> Result<Option<usize>, Error> {
+fn first_wrong_cut(alloc: Global, way: Way) -> Result<Option<usize>, AllocError> {
     let (stream, counts) = all_cuts(alloc)?;
     for (cut, count) in counts.iter().enumerate() {
         let bytes = stream.get(..cut).unwrap_or(&[]);

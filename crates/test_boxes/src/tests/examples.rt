@@ -7,14 +7,14 @@ use example_boxes::references::append_reference;
 use example_boxes::sound::{audio_configuration, read_small_esds};
 use example_boxes::times::append_decode_time;
 use mp4_stream::{AacConfig, ByteCursor, Co64Box, DecoderSpecificDescriptor, Error, EsdsBox};
-use std::alloc::Global;
+use std::alloc::{AllocError, Global};
 use std::test::Fail;
 use test_shared::boxes::sound::{ESDS, STSD, esds, specific};
 use test_shared::boxes::text::DINF_URL;
 use test_shared::helpers::invalid_text;
 
 /// Returns a `co64` with these offsets.
-fn long_offsets(alloc: Global, offsets: &[u64]) -> Result<Co64Box, Error> {
+fn long_offsets(alloc: Global, offsets: &[u64]) -> Result<Co64Box, AllocError> {
     Ok(Co64Box {
         version: 1,
         flags: 5,
@@ -22,35 +22,41 @@ fn long_offsets(alloc: Global, offsets: &[u64]) -> Result<Co64Box, Error> {
     })
 }
 
-/// Returns the number of bytes that `append_short` appends for these offsets.
-fn size_of_short(alloc: Global, offsets: &[u64]) -> Result<u64, Error> {
-    let long = long_offsets(alloc, offsets)?;
-    append_short(alloc, &long, &mut Vec::new(alloc))
+/// Returns whether `append_short` appends `size` bytes for these offsets.
+fn are_shortened(alloc: Global, offsets: &[u64], size: u64) -> bool {
+    match long_offsets(alloc, offsets) {
+        Ok(long) => {
+            matches!(append_short(alloc, &long, &mut Vec::new(alloc)), Ok(found) if found == size)
+        }
+        Err(_) => false,
+    }
 }
 
 /// Returns whether a decode time is appended in 32 bits if it fits, and in 64 bits otherwise.
-fn times_are_appended(alloc: Global) -> Result<bool, Error> {
+fn times_are_appended(alloc: Global) -> bool {
     let bytes =
         *b"\0\0\0\x10tfdt\0\0\0\0\xff\xff\xff\xff\0\0\0\x14tfdt\x01\0\0\0\0\0\0\x01\0\0\0\0";
     let mut out = Vec::new(alloc);
-    let short = append_decode_time(0xffff_ffff, &mut out)?;
-    let long = append_decode_time(0x1_0000_0000, &mut out)?;
-    Ok(short == 16 && long == 20 && out.as_slice() == bytes.as_slice())
+    matches!(append_decode_time(0xffff_ffff, &mut out), Ok(16))
+        && matches!(append_decode_time(0x1_0000_0000, &mut out), Ok(20))
+        && out.as_slice() == bytes.as_slice()
 }
 
 /// Returns whether a data reference is appended as a `dinf`.
-fn reference_is_appended(alloc: Global) -> Result<bool, Error> {
+fn reference_is_appended(alloc: Global) -> bool {
     let mut out = Vec::new(alloc);
-    let count = append_reference(alloc, "a", &mut out)?;
-    Ok(count == 38 && out.as_slice() == DINF_URL.as_slice())
+    matches!(append_reference(alloc, "a", &mut out), Ok(38))
+        && out.as_slice() == DINF_URL.as_slice()
 }
 
 #[test]
-fn decode_times_offsets_and_references_are_appended(rt: HostRuntime) -> Result<(), Fail> {
-    assert!(rt; times_are_appended(rt.alloc())?);
-    assert!(rt; size_of_short(rt.alloc(), &[267, 4294967295])? == 24);
-    assert!(rt; reference_is_appended(rt.alloc())?);
-    Ok(())
+fn decode_times_offsets_and_references_are_appended(rt: HostRuntime) {
+    let alloc = rt.alloc();
+    assert!(rt;
+        times_are_appended(alloc)
+            && are_shortened(alloc, &[267, 4294967295], 24)
+            && reference_is_appended(alloc)
+    );
 }
 
 /// Returns whether the default configuration is made from its numbers, and from the configuration itself.

@@ -66,17 +66,18 @@ fn a_place_is_used_again(rt: HostRuntime) -> Result<(), Fail> {
 }
 
 /// Returns whether the boxes after the cursor are collected, and the cursor stays where it is.
-fn is_collected_from_the_cursor(alloc: Global) -> Result<bool, Error> {
+fn is_collected_from_the_cursor(alloc: Global) -> bool {
     let mut reader = ByteCursor::new(&MARKS);
     reader.set_position(12);
-    let found = collect_boxes(alloc, Boxes::<MarkBox>::from_cursor(alloc, &reader))?;
-    Ok(found.as_slice() == [MarkBox { mark: 8 }].as_slice() && reader.position() == 12)
+    match collect_boxes(alloc, Boxes::<MarkBox>::from_cursor(alloc, &reader)) {
+        Ok(found) => number_in(&found) == 8 && reader.position() == 12,
+        Err(_) => false,
+    }
 }
 
 #[test]
-fn what_is_left_is_collected(rt: HostRuntime) -> Result<(), Fail> {
-    assert!(rt; is_collected_from_the_cursor(rt.alloc())?);
+fn what_is_left_is_collected(rt: HostRuntime) {
+    assert!(rt; is_collected_from_the_cursor(rt.alloc()));
     let all = collect_boxes::<AnyBox>(rt.alloc(), boxes_as(rt.alloc(), &THREE));
     assert!(rt; kind_and_count(all) == (Kind::Ok, 2));
-    Ok(())
 }

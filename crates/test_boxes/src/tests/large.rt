@@ -1,15 +1,20 @@
 //! Tests of boxes with many parts, which are read and cloned, and of a list of many boxes, which is read and written.
 //! Memory is ample.
 
-use super::streams::rewrite;
+use super::streams::is_rewritten;
 use mp4_stream::{AvcCBox, Error, FtypBox, HdlrBox, KeptBox, OtherBox, ReadBox, StcoBox, TryClone};
-use std::alloc::Global;
+use std::alloc::{AllocError, Global};
 use std::test::Fail;
 use test_shared::helpers::{Mismatch, read};
 use test_shared::made;
 
 /// Returns `front`, followed by `count` copies of `piece`.
-fn repeated(alloc: Global, front: &[u8], piece: &[u8], count: usize) -> Result<Vec<u8>, Error> {
+fn repeated(
+    alloc: Global,
+    front: &[u8],
+    piece: &[u8],
+    count: usize,
+) -> Result<Vec<u8>, AllocError> {
     let mut bytes = Vec::from_slice(alloc, front)?;
     for _ in 0..count {
         bytes.extend_from_slice(piece)?;
@@ -20,7 +25,7 @@ fn repeated(alloc: Global, front: &[u8], piece: &[u8], count: usize) -> Result<V
 /// Expects that a box is read from the bytes in `made`, and that it is equal to its clone.
 fn clone_of_read<B: ReadBox + TryClone + PartialEq + Drop>(
     alloc: Global,
-    made: Result<Vec<u8>, Error>,
+    made: Result<Vec<u8>, AllocError>,
 ) -> Result<(), Mismatch> {
     let bytes = made?;
     let (found, _) = read::<B>(alloc, &bytes, bytes.len() as u64);
@@ -80,6 +85,6 @@ fn a_list_of_131074_boxes_is_read_and_written(rt: HostRuntime) -> Result<(), Fai
         b"\0\0\0\x10mfhd\0\0\0\0\0\0\0\x01\0\0\0\x10stco\0\0\0\0\0\0\0\0",
         65_537,
     )?;
-    assert!(rt; rewrite(rt.alloc(), &bytes)?.as_slice() == bytes.as_slice());
+    assert!(rt; is_rewritten(rt.alloc(), &bytes));
     Ok(())
 }

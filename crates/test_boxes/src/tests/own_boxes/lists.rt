@@ -1,14 +1,14 @@
 //! Lists with an `ssix` or a `fiel` among other boxes.
 
-use crate::tests::own_boxes::is_writable;
 use crate::tests::own_boxes::ssix::{BYTES, TOO_MANY, changed, index};
 use example_boxes::{FIEL, Fiel, FielBox, SSIX, SegmentBox};
 use mp4_stream::{
     AnyBox, BoxType, ByteCursor, Either, Error, KeptBox, MfhdBox, Mp4Box, OtherBox, Result as Made,
     StreamBox, TfdtBox, TrunBox, read_boxes_as, write_boxes,
 };
-use std::alloc::Global;
+use std::alloc::{AllocError, Global};
 use std::test::Fail;
+use test_shared::made;
 
 /// An `mfhd`, a `tfdt` of version 1, and a `trun` with the sizes of two samples.
 const FRAGMENT: [u8; 60] = *b"\0\0\0\x10mfhd\0\0\0\0\xc1\xc2\xc3\xc4\
@@ -33,7 +33,7 @@ const OF_TFDT: TfdtBox = TfdtBox {
 };
 
 /// Returns the bytes of an index with the pieces of `after` appended.
-fn joined(alloc: Global, after: &[&[u8]]) -> Made<Vec<u8>> {
+fn joined(alloc: Global, after: &[&[u8]]) -> Result<Vec<u8>, AllocError> {
     let mut bytes = Vec::from_slice(alloc, &BYTES)?;
     for piece in after {
         bytes.extend_from_slice(piece)?;
@@ -42,7 +42,7 @@ fn joined(alloc: Global, after: &[&[u8]]) -> Made<Vec<u8>> {
 }
 
 /// Makes the `trun` of `FRAGMENT`.
-fn two_samples(alloc: Global) -> Made<TrunBox> {
+fn two_samples(alloc: Global) -> Result<TrunBox, AllocError> {
     let mut trun = TrunBox::default_in(alloc);
     trun.flags = TrunBox::FLAG_SAMPLE_SIZE;
     trun.sample_count = 2;
@@ -88,6 +88,28 @@ fn are_named<B: StreamBox>(boxes: &[B], expected: &[(BoxType, u64)]) -> bool {
     boxes.len() == expected.len()
 }
 
+/// Returns whether `boxes` are written as `written`.
+fn are_written<B: StreamBox>(alloc: Global, boxes: &[B], written: &[u8]) -> bool {
+    let mut out = Vec::new(alloc);
+    write_boxes(boxes, &mut out).is_ok() && out.as_slice() == written
+}
+
+/// Returns whether `boxes` are read from `bytes` up to the end, and have these `names` with sizes.
+fn are_read<B: StreamBox + PartialEq + Drop>(
+    alloc: Global,
+    boxes: &[B],
+    names: &[(BoxType, u64)],
+    bytes: &[u8],
+) -> bool {
+    let mut reader = ByteCursor::new(bytes);
+    let found: Made<Vec<B>> = read_boxes_as(alloc, &mut reader);
+    let is_all = reader.position() == bytes.len() as u64;
+    match found {
+        Ok(found) => is_all && found.as_slice() == boxes && are_named(&found, names),
+        Err(_) => false,
+    }
+}
+
 /// Returns whether the boxes have these `names` with sizes, are read from `bytes` up to the end, and are written as
 /// `written`.
 fn are_in<B: StreamBox + PartialEq + Drop>(
@@ -96,14 +118,11 @@ fn are_in<B: StreamBox + PartialEq + Drop>(
     names: &[(BoxType, u64)],
     bytes: &[u8],
     written: &[u8],
-) -> Made<bool> {
-    let boxes = made?;
-    let mut out = Vec::new(alloc);
-    write_boxes(&boxes, &mut out)?;
-    let mut reader = ByteCursor::new(bytes);
-    let found: Vec<B> = read_boxes_as(alloc, &mut reader)?;
-    let is_all = reader.position() == bytes.len() as u64 && out.as_slice() == written;
-    Ok(is_all && found == boxes && are_named(&found, names))
+) -> bool {
+    match made {
+        Ok(boxes) => are_written(alloc, &boxes, written) && are_read(alloc, &boxes, names, bytes),
+        Err(_) => false,
+    }
 }
 
 /// The names and sizes of the boxes in a segment.
@@ -115,10 +134,15 @@ const OF_SEGMENT: [(BoxType, u64); 4] = [
 ];
 
 /// Returns whether a segment is read with other boxes in it and written without them.
-fn is_a_segment(alloc: Global) -> Made<bool> {
+fn is_a_segment(alloc: Global) -> Result<bool, AllocError> {
     let bytes = joined(alloc, &[&OTHERS, &FRAGMENT])?;
     let written = joined(alloc, &[&FRAGMENT])?;
-    are_in(alloc, segment(alloc), &OF_SEGMENT, &bytes, &written)
+    Ok(are_in(alloc, segment(alloc), &OF_SEGMENT, &bytes, &written))
+}
+
+/// Returns whether the type of the list knows neither the code after that of an index nor `moof`.
+fn knows_no_other() -> bool {
+    !SegmentBox::knows(BoxType::UnknownBox(SSIX + 1)) && !SegmentBox::knows(BoxType::MoofBox)
 }
 
 /// Returns whether reading a list fails with the fault of its index, whose last count is too large, and leaves the
@@ -134,9 +158,7 @@ fn has_the_fault_of_its_box(alloc: Global) -> bool {
 #[test]
 fn a_segment_is_written_and_read(rt: HostRuntime) -> Result<(), Fail> {
     assert!(rt; is_a_segment(rt.alloc())?);
-    assert!(rt; has_the_fault_of_its_box(rt.alloc()));
-    assert!(rt; !SegmentBox::knows(BoxType::UnknownBox(SSIX + 1)));
-    assert!(rt; !SegmentBox::knows(BoxType::MoofBox));
+    assert!(rt; has_the_fault_of_its_box(rt.alloc()) && knows_no_other());
     Ok(())
 }
 
@@ -148,10 +170,9 @@ const OF_BESIDE: [(BoxType, u64); 3] = [
 ];
 
 #[test]
-fn a_fiel_is_among_boxes_of_the_codec_and_others(rt: HostRuntime) -> Result<(), Fail> {
+fn a_fiel_is_among_boxes_of_the_codec_and_others(rt: HostRuntime) {
     let alloc = rt.alloc();
-    assert!(rt; are_in(alloc, kept(alloc), &OF_BESIDE, &BESIDE, &BESIDE)?);
-    Ok(())
+    assert!(rt; are_in(alloc, kept(alloc), &OF_BESIDE, &BESIDE, &BESIDE));
 }
 
 /// Makes a kept box with the code of a `fiel` and a longer content.
@@ -162,6 +183,7 @@ fn kept_with_the_declared_code(alloc: Global) -> Made<Either<FielBox, KeptBox>> 
 
 #[test]
 fn a_kept_box_may_not_have_the_declared_code(rt: HostRuntime) -> Result<(), Fail> {
-    assert!(rt; !is_writable(kept_with_the_declared_code(rt.alloc()))?);
+    let alloc = rt.alloc();
+    made::unwritable(alloc, kept_with_the_declared_code(alloc))?;
     Ok(())
 }

@@ -1,10 +1,12 @@
 //! The bytes of `pdin` (ISO/IEC 14496-12, 8.1.3).
 
-use crate::tests::own_boxes::{ends_early, has_fault, is_in, is_read, is_writable};
+use crate::tests::own_boxes::has_fault;
 use example_boxes::{Pdin, PdinBox, PdinEntry};
 use mp4_stream::Result as Made;
 use std::alloc::Global;
 use std::test::Fail;
+use test_shared::helpers::{Kind, expect_kind};
+use test_shared::made;
 
 /// Three entries. The bytes of the fields count up from 0x81, after the version.
 const BYTES: [u8; 36] = *b"\0\0\0\x24pdin\0\x81\x82\x83\
@@ -40,23 +42,28 @@ fn pdin(alloc: Global, version: u8, flags: u32, entries: &[PdinEntry]) -> Made<P
 #[test]
 fn pdin_is_written_and_read(rt: HostRuntime) -> Result<(), Fail> {
     let alloc = rt.alloc();
-    assert!(rt; is_in(alloc, pdin(alloc, 0, 0x81_8283, &ENTRIES), &BYTES)?);
     let two = pdin(alloc, 0, 0x81_8283, &ENTRIES[..2]);
-    assert!(rt; is_read(alloc, two, &BYTES, 28)?);
     let none = pdin(alloc, 0, 0, &[]);
-    assert!(rt; is_in(alloc, none, b"\0\0\0\x0cpdin\0\0\0\0")?);
+    made::round_trip(alloc, pdin(alloc, 0, 0x81_8283, &ENTRIES), &BYTES)
+        .and(made::value(alloc, two, &BYTES, 28))
+        .and(made::round_trip(alloc, none, b"\0\0\0\x0cpdin\0\0\0\0"))?;
     Ok(())
+}
+
+/// Returns whether a size and a version that do not fit have their faults.
+fn has_faults(alloc: Global) -> bool {
+    let first = b"\0\0\0\x0cpdin\x01\x81\x82\x83";
+    has_fault::<PdinBox>(alloc, &BYTES, 35, "entries do not fill the box")
+        && has_fault::<PdinBox>(alloc, first, 12, "version must be 0")
 }
 
 #[test]
 fn sizes_and_versions_that_do_not_fit(rt: HostRuntime) -> Result<(), Fail> {
     let alloc = rt.alloc();
-    assert!(rt; ends_early::<PdinBox>(alloc, &BYTES[..35], 36));
-    assert!(rt; has_fault::<PdinBox>(alloc, &BYTES, 35, "entries do not fill the box"));
-    let first = b"\0\0\0\x0cpdin\x01\x81\x82\x83";
-    assert!(rt; has_fault::<PdinBox>(alloc, first, 12, "version must be 0"));
-    assert!(rt; !is_writable(pdin(alloc, 1, 0, &[]))?);
-    assert!(rt; is_writable(pdin(alloc, 0, 0xff_ffff, &[]))?);
-    assert!(rt; !is_writable(pdin(alloc, 0, 0x100_0000, &[]))?);
+    assert!(rt; has_faults(alloc));
+    expect_kind::<PdinBox>(alloc, &BYTES[..35], 36, Kind::End)
+        .and(made::unwritable(alloc, pdin(alloc, 1, 0, &[])))
+        .and(made::written(alloc, pdin(alloc, 0, 0xff_ffff, &[]), 12))
+        .and(made::unwritable(alloc, pdin(alloc, 0, 0x100_0000, &[])))?;
     Ok(())
 }

@@ -2,11 +2,13 @@
 
 ghost use Rattle.std.specs.Prelude.{◌<◌};
 
-use crate::tests::own_boxes::{ends_early, has_fault, is_in, is_read, is_writable};
+use crate::tests::own_boxes::has_fault;
 use example_boxes::{Ssix, SsixBox, SsixRange, Subsegment};
 use mp4_stream::Result as Made;
 use std::alloc::Global;
 use std::test::Fail;
+use test_shared::helpers::{Kind, expect_kind};
+use test_shared::made;
 
 /// Three subsegments, with two ranges, one and four. The bytes of the fields count up from 0x81, after the version and
 /// between the counts.
@@ -73,9 +75,12 @@ fn has_too_many(alloc: Global, bytes: &[u8], size: u64) -> bool {
 #[test]
 fn ssix_is_written_and_read(rt: HostRuntime) -> Result<(), Fail> {
     let alloc = rt.alloc();
-    assert!(rt; is_in(alloc, index(alloc), &BYTES)?);
     let empty = b"\0\0\0\x14ssix\0\x81\x82\x83\0\0\0\x01\0\0\0\0";
-    assert!(rt; is_in(alloc, ssix(alloc, &[&[]]), empty)?);
+    made::round_trip(alloc, index(alloc), &BYTES).and(made::round_trip(
+        alloc,
+        ssix(alloc, &[&[]]),
+        empty,
+    ))?;
     Ok(())
 }
 
@@ -84,21 +89,24 @@ fn ssix_is_written_and_read(rt: HostRuntime) -> Result<(), Fail> {
 fn counts_that_are_one_short(rt: HostRuntime) -> Result<(), Fail> {
     let alloc = rt.alloc();
     let two = ssix(alloc, &RANGES[..2]);
-    assert!(rt; is_read(alloc, two, &changed(15, 2), 56)?);
-    assert!(rt; has_too_many(alloc, &changed(19, 1), 56));
     let last = ssix(alloc, &[RANGES[0], RANGES[1], &RANGES[2][..3]]);
-    assert!(rt; is_read(alloc, last, &changed(39, 3), 56)?);
+    assert!(rt; has_too_many(alloc, &changed(19, 1), 56));
+    made::value(alloc, two, &changed(15, 2), 56).and(made::value(
+        alloc,
+        last,
+        &changed(39, 3),
+        56,
+    ))?;
     Ok(())
 }
 
 #[test]
 fn counts_and_sizes_that_do_not_fit(rt: HostRuntime) -> Result<(), Fail> {
     let alloc = rt.alloc();
-    assert!(rt; has_too_many(alloc, &BYTES, 55));
-    assert!(rt; ends_early::<SsixBox>(alloc, &BYTES[..55], 56));
-    assert!(rt; ends_early::<SsixBox>(alloc, &changed(15, 4), 56));
-    assert!(rt; has_too_many(alloc, &changed(39, 5), 56));
-    assert!(rt; is_writable(ssix(alloc, &[&[(0xff, 0xff_ffff)]]))?);
-    assert!(rt; !is_writable(ssix(alloc, &[&[(0, 0x100_0000)]]))?);
+    assert!(rt; has_too_many(alloc, &BYTES, 55) && has_too_many(alloc, &changed(39, 5), 56));
+    expect_kind::<SsixBox>(alloc, &BYTES[..55], 56, Kind::End)
+        .and(expect_kind::<SsixBox>(alloc, &changed(15, 4), 56, Kind::End))
+        .and(made::written(alloc, ssix(alloc, &[&[(0xff, 0xff_ffff)]]), 24))
+        .and(made::unwritable(alloc, ssix(alloc, &[&[(0, 0x100_0000)]])))?;
     Ok(())
 }
