@@ -3,17 +3,18 @@
 _mp4remux() {
     local word=${COMP_WORDS[COMP_CWORD]} command=${COMP_WORDS[1]} words
     case ${COMP_WORDS[COMP_CWORD - 1]} in
-        --duration | --remove | --brand | --language | --rotate | --enable | --disable | --drop-track | --title | --tag) return ;;
+        --duration | --remove | --brand | --language | --rotate | --enable | --disable | --drop-track | --title | --tag | --from | --to) return ;;
     esac
     case $command in
         edit)
             words="--remove --insert --replace --brand --language --rotate --enable --disable --drop-track --no-tags"
             words+=" --title --tag --cover --help" ;;
         fragment) words="--duration --sidx --mfra --segments --help" ;;
-        help) words="faststart edit fragment defragment" ;;
+        cut) words="--from --to --help" ;;
+        help) words="faststart edit fragment defragment cut" ;;
         *) words="--help" ;;
     esac
-    ((COMP_CWORD > 1)) || words="faststart edit fragment defragment help --help --version"
+    ((COMP_CWORD > 1)) || words="faststart edit fragment defragment cut help --help --version"
     mapfile -t COMPREPLY < <(
         compgen -W "$words" -- "$word"
         [[ $word == -* || $COMP_CWORD -eq 1 || $command == help ]] || compgen -f -- "$word"

@@ -67,7 +67,7 @@ infos_counted file n (f ∷ fs) (t ∷ ts) are = omega (arith, infos_counted fil
 infos_counted file n [] (t ∷ ts) are = absurd are
 infos_counted file n (f ∷ fs) [] are = absurd are
 
-recorded : {A : Type 0} (r : Result A BoxError) (v : A) (d : Result A Problem) → r ≡ Ok v → Records r d → d ≡ Ok v
+pub recorded : {A : Type 0} (r : Result A BoxError) (v : A) (d : Result A Problem) → r ≡ Ok v → Records r d → d ≡ Ok v
 recorded {A} r v d is records = subst (λ (x : Result A BoxError). Records x d) is records
 
 -- the headers of a track are the answers for it
@@ -76,7 +76,7 @@ pub record AreHeaders (file : List ℕ) (k : ℕ) (fs : List Found) (t : TrackIn
   pub scale : Records t.timescale (of_track (timescale file) k fs)
   pub handler_type : Records t.handler (of_track (handler file) k fs)
 
-info_at : (file : List ℕ) (n : ℕ) (fs : List Found) (ts : List TrackInfo) (k : ℕ) (t : TrackInfo)
+pub info_at : (file : List ℕ) (n : ℕ) (fs : List Found) (ts : List TrackInfo) (k : ℕ) (t : TrackInfo)
     → AreInfos file n fs ts → k < length ts → AreHeaders file k fs (get_or ts k t)
 info_at file n [] [] k t are less = absurd (omega (arith, less))
 info_at file n (f ∷ fs) (u ∷ us) zero t are less = record {
@@ -104,7 +104,7 @@ SoFar ps n r s = IfSome r (λ B. IfSome s (λ C. (k : ℕ) → k < n → Carries
 abbrev pub IfInfos : Option (List ℕ) → List TrackInfo → Type 0
 IfInfos r ts = IfSome r (λ file. AreInfos file 0 (traks (boxes_of file)) ts)
 
-teller : (B : List ℕ) (n id : ℕ) (v : Option SampleBoxes) (fs : List TrackFragment) (m : Teller)
+pub teller : (B : List ℕ) (n id : ℕ) (v : Option SampleBoxes) (fs : List TrackFragment) (m : Teller)
     → at_track track_id B n ≡ Ok id → at_track samples_of B n ≡ Ok v → AreFragmentsOf B id fs → IsTellerOf v fs m
     → IsTeller B n m
 teller B n id v fs m is_id is_v are of = record {

@@ -16,3 +16,9 @@ pub mod Grouping
 pub mod BothFiles
 pub mod BothForms
 pub mod Writing
+pub mod LastSamples
+pub mod RunSteps
+pub mod Origins
+pub mod CutTracks
+pub mod CutWriting
+pub mod Moments

@@ -24,3 +24,8 @@ pub mod Edits
 pub mod Shortcuts
 pub mod Tags
 pub mod Forms
+pub mod Origins
+pub mod Parts
+pub mod PartLaws
+pub mod CarriedParts
+pub mod WrittenParts

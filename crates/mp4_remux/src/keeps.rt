@@ -16,7 +16,7 @@ use mp4_walk::Source;
 use std::alloc::Global;
 
 /// Returns the fragments of all tracks of `movie`.
-fn groups_of<S: Source>(alloc: Global, movie: &mut Movie<S>) -> Result<Groups, Stop>
+pub(crate) fn groups_of<S: Source>(alloc: Global, movie: &mut Movie<S>) -> Result<Groups, Stop>
     ensures value { IfSome movie.old.bytes
         (λ B. IfOk result (λ groups. (id : ℕ) → AreFragmentsOf B id (in_group groups id))) }
     ensures kept { movie.new ≡ movie.old }

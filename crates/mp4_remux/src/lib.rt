@@ -8,6 +8,7 @@ mod groups;
 mod keeps;
 mod kept;
 mod media;
+pub mod parts;
 pub mod pieces;
 mod refusal;
 mod teller;

@@ -7,6 +7,7 @@ ghost use Rattle.mp4_remux.specs.declared.refusal.Stop.TheVariants.{Failed, Refu
 
 use crate::edits::EditRefusal;
 use crate::forms::FormRefusal;
+use crate::parts::PartRefusal;
 use mp4_io::{Failure, read_failure};
 use mp4_movie::{BoxError, MovieError};
 use mp4_samples::Disagreement;
@@ -77,6 +78,9 @@ pub enum Refusal {
     /// The other form of the file can't be made.
     #[error("{0}")]
     Form(FormRefusal),
+    /// A part of the file can't be made.
+    #[error("{0}")]
+    Part(PartRefusal),
 }
 
 /// The reason why a new file is not written, or not to its end.

@@ -81,7 +81,7 @@ fn check_samples(
 }
 
 /// Returns the sample tables of track `number`, counted from 0.
-fn tables_of<S: Source>(
+pub(crate) fn tables_of<S: Source>(
     alloc: Global,
     movie: &mut Movie<S>,
     number: usize,
@@ -114,7 +114,7 @@ fn descriptions_of<S: Source>(
 }
 
 /// Checks that track `number`, counted from 0, has the same sample descriptions.
-fn check_descriptions<S: Source, T: Source>(
+pub(crate) fn check_descriptions<S: Source, T: Source>(
     alloc: Global,
     before: &mut Movie<S>,
     after: &mut Movie<T>,

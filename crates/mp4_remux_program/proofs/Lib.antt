@@ -7,3 +7,4 @@ pub mod Tasks
 pub mod WholeEdits
 pub mod Writing
 pub mod WritingEdits
+pub mod Cuts

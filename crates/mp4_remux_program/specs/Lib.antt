@@ -10,4 +10,5 @@ pub mod EditedMovie
 pub mod EditedFile
 pub mod WrittenEdits
 pub mod WrittenForms
+pub mod WrittenParts
 pub mod Tasks

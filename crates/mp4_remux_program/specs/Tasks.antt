@@ -6,6 +6,7 @@ use Rattle.mp4_remux.specs.declared.forms.form.Form.TheVariants as forms
 use Rattle.mp4_remux_program.specs.Written.{WroteFastStart}
 use Rattle.mp4_remux_program.specs.WrittenEdits.{WroteChanges}
 use Rattle.mp4_remux_program.specs.WrittenForms.{WroteOtherForm}
+use Rattle.mp4_remux_program.specs.WrittenParts.{WroteBetween}
 use Rattle.mp4_remux_program.specs.declared.refusal.Stop.{Stop}
 use Rattle.mp4_remux_program.specs.declared.task.Done.{Done}
 use Rattle.mp4_remux_program.specs.declared.task.Done.TheVariants as results
@@ -36,3 +37,4 @@ DoesTask tasks.FastStart B old new res = MovedOrCopied B old new res
 DoesTask (tasks.Edit changes) B old new res = MadeChanges B changes.items old new res
 DoesTask (tasks.Fragment options) B old new res = WroteOtherForm forms.Fragments B old new res
 DoesTask tasks.Defragment B old new res = WroteOtherForm forms.Tables B old new res
+DoesTask (tasks.Cut times) B old new res = WroteBetween times B old new res

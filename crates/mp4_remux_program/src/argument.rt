@@ -1,6 +1,6 @@
-//! The values of options: the changes that those of `edit` ask for, and the seconds of `fragment`.
+//! The values of options: the changes that those of `edit` ask for, and the seconds of `fragment` and `cut`.
 
-use crate::seconds::nanoseconds_in;
+use crate::seconds::{nanoseconds_in, time_in};
 use mp4_frame::FourCC;
 use mp4_remux::edits::{Parent, packed_language};
 use mp4_walk::BoxPath;
@@ -71,6 +71,10 @@ const TAG: &str = "expected KEY=VALUE with a key of four characters, such as \u{
 /// The form of the value of `--duration`.
 const DURATION: &str =
     "expected a number of seconds above 0, with at most nine digits after the point, such as 2.5";
+
+/// The form of the value of `--from` and `--to`.
+const TIME: &str =
+    "expected a number of seconds, with at most nine digits after the point, such as 2.5";
 
 /// Returns what is before the first `=` of `text`, and what is after it.
 fn halves<'a>(text: &'a str, form: &'static str) -> Result<(&'a str, &'a str), ArgumentError> {
@@ -205,5 +209,13 @@ pub(crate) fn duration(value: &str) -> Result<u64, ArgumentError> {
     match nanoseconds_in(value) {
         Some(nanoseconds) => Ok(nanoseconds),
         None => Err(ArgumentError::Form(DURATION)),
+    }
+}
+
+/// Returns the number of nanoseconds that `--from` or `--to` with this value asks for.
+pub(crate) fn time(value: &str) -> Result<u64, ArgumentError> {
+    match time_in(value) {
+        Some(nanoseconds) => Ok(nanoseconds),
+        None => Err(ArgumentError::Form(TIME)),
     }
 }

@@ -1,11 +1,13 @@
 //! The program `mp4remux` rewrites the container of MP4 files, and keeps every sample of every track. It writes a file
-//! with its `moov` before its media data, with edits of its boxes, or with its samples in fragments or in tables.
+//! with its `moov` before its media data, with edits of its boxes, or with its samples in fragments or in tables. It
+//! also writes a part of a file.
 #![tactic(auto)]
 
 mod argument;
 mod around;
 mod changes;
 mod compare;
+mod cut;
 mod destination;
 mod edited;
 mod editing;
@@ -59,6 +61,7 @@ fn task_of(rt: &HostRuntime, work: Work) -> Result<Task, NoChanges> {
         Work::Edit(arguments) => Ok(Task::Edit(changes_of(rt, arguments)?)),
         Work::Fragment(options) => Ok(Task::Fragment(options)),
         Work::Defragment => Ok(Task::Defragment),
+        Work::Cut(times) => Ok(Task::Cut(times)),
     }
 }
 

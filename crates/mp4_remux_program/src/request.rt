@@ -2,8 +2,9 @@
 
 use crate::argument::{
     Argument, ArgumentError, brands, duration, insertion, language, removal, replacement, rotation,
-    tag, track_of,
+    tag, time, track_of,
 };
+use crate::cut::Times;
 use clap::{Arg, ArgAction, ArgMatches, Command, Error};
 use mp4_command::{MISUSE, escaped, print_error, unreadable, words_of};
 use mp4_io::Failure;
@@ -21,6 +22,8 @@ pub enum Work {
     Fragment(FragmentOptions),
     /// All samples in tables.
     Defragment,
+    /// The part between two times.
+    Cut(Times),
 }
 
 /// A request to write a file.
@@ -98,6 +101,16 @@ Exit status: 0 written, 1 refused (nothing is written), 2 misuse, 3 failed.";
 const AFTER_DEFRAGMENT: &str =
     "Every sample of every track keeps its bytes, times, flags and description. What tables can't say is refused: a
 first sample that is not decoded at 0, and a gap between samples.
+
+Exit status: 0 written, 1 refused (nothing is written), 2 misuse, 3 failed.";
+
+/// The end of the help of `cut`.
+const AFTER_CUT: &str =
+    "Every sample that is kept has its bytes, duration, rendering offset, flags and description, and the decode times of
+a track are less by one number. The samples of the first video are those from its last sync sample at --from or earlier
+to the last one, in decode order, that is presented before --to. All other tracks begin when this sync sample is
+presented: with their last sync sample at that time or earlier. New edit lists present the time from --from to --to.
+OUT has tables, and IN has tables or fragments.
 
 Exit status: 0 written, 1 refused (nothing is written), 2 misuse, 3 failed.";
 
@@ -256,6 +269,20 @@ fn defragment<'a>(alloc: Global) -> Result<Command<'a>, AllocError> {
         .arg(output(alloc))
 }
 
+/// Returns the command `cut`.
+fn cut<'a>(alloc: Global) -> Result<Command<'a>, AllocError> {
+    let about = "Write the part of a file between two times, without changing its samples";
+    let from = "Begin the part at this time, such as 2.5";
+    let to = "End the part at this time, or when the file ends";
+    Command::new(alloc, "cut")
+        .about(about)
+        .after_help(AFTER_CUT)
+        .arg(option(alloc, "from", "SECONDS", from).required(true))?
+        .arg(option(alloc, "to", "SECONDS", to).required(true))?
+        .arg(input(alloc))?
+        .arg(output(alloc))
+}
+
 /// Returns the whole command line.
 fn command<'a>(alloc: Global) -> Result<Command<'a>, AllocError> {
     Command::new(alloc, "mp4remux")
@@ -268,7 +295,8 @@ fn command<'a>(alloc: Global) -> Result<Command<'a>, AllocError> {
         .subcommand(fast_start(alloc)?)?
         .subcommand(edit(alloc)?)?
         .subcommand(fragment(alloc)?)?
-        .subcommand(defragment(alloc)?)
+        .subcommand(defragment(alloc)?)?
+        .subcommand(cut(alloc)?)
 }
 
 /// Returns the name of the file in the argument `id` of `matches`.
@@ -396,6 +424,30 @@ fn fragments_of(alloc: Global, matches: &ArgMatches<'_>) -> Result<FragmentOptio
     })
 }
 
+/// Returns the time in `matches` that the option `name` asks for, in nanoseconds.
+fn time_of(alloc: Global, matches: &ArgMatches<'_>, name: &'static str) -> Result<u64, Misuse> {
+    let value = utf_8(alloc, matches.get_str(name).unwrap_or(""))?;
+    match time(value) {
+        Ok(nanoseconds) => Ok(nanoseconds),
+        Err(error) => Err(misuse_of(alloc, name, value, error)),
+    }
+}
+
+/// Returns the times of the part that `matches` ask for. The second one is later than the first.
+fn times_of(alloc: Global, matches: &ArgMatches<'_>) -> Result<Times, Misuse> {
+    let from = time_of(alloc, matches, "from")?;
+    let to = time_of(alloc, matches, "to")?;
+    if to <= from {
+        let value = matches.get_str("to").unwrap_or("");
+        return Err(Misuse::Value {
+            option: "to",
+            value: String::from_str(alloc, value)?,
+            form: "expected a time after --from",
+        });
+    }
+    Ok(Times { from, to })
+}
+
 /// Returns the request to do `work` with the file IN of `matches`, and to write what the argument `to` names.
 fn files_in(
     alloc: Global,
@@ -430,6 +482,10 @@ fn asked(alloc: Global, matches: &ArgMatches<'_>) -> Result<Request, Misuse> {
         }
         Some(("fragment", inner)) => fragment_of(alloc, inner),
         Some(("defragment", inner)) => Ok(files_in(alloc, inner, Work::Defragment, "OUT")?),
+        Some(("cut", inner)) => {
+            let work = Work::Cut(times_of(alloc, inner)?);
+            Ok(files_in(alloc, inner, work, "OUT")?)
+        }
         Some((_, inner)) => Ok(files_in(alloc, inner, Work::FastStart, "OUT")?),
         None => Ok(files_in(alloc, matches, Work::FastStart, "OUT")?),
     }

@@ -25,9 +25,9 @@ fn fraction_of(digits: &str) -> Option<u64> {
     Some(number)
 }
 
-/// Returns the number of nanoseconds in `text`, a number of seconds above 0 such as `2` or `2.5`, with at most nine
-/// digits after the point. Returns `None` if it is something else.
-pub(crate) fn nanoseconds_in(text: &str) -> Option<u64> {
+/// Returns the number of nanoseconds in `text`, a number of seconds such as `0` or `2.5`, with at most nine digits
+/// after the point. Returns `None` if it is something else.
+pub(crate) fn time_in(text: &str) -> Option<u64> {
     let mut parts = text.split('.');
     let whole = number_of(parts.next()?)?;
     let fraction = match parts.next() {
@@ -37,6 +37,11 @@ pub(crate) fn nanoseconds_in(text: &str) -> Option<u64> {
     if parts.next().is_some() {
         return None;
     }
-    let sum = whole.checked_mul(1_000_000_000)?.checked_add(fraction)?;
-    if sum == 0 { None } else { Some(sum) }
+    whole.checked_mul(1_000_000_000)?.checked_add(fraction)
+}
+
+/// Returns the number of nanoseconds in `text`, a number of seconds above 0. Returns `None` if it is something else.
+pub(crate) fn nanoseconds_in(text: &str) -> Option<u64> {
+    let time = time_in(text)?;
+    if time == 0 { None } else { Some(time) }
 }

@@ -4,7 +4,9 @@ ghost use Rattle.std.specs.Prelude.{◌≡◌, Some, IfSome};
 ghost use Rattle.mp4_remux.specs.declared.forms.form.Form.TheVariants as forms;
 ghost use Rattle.mp4_remux_program.specs.Tasks.{DoesTask, MadeChanges, MovedOrCopied, with_done};
 ghost use Rattle.mp4_remux_program.specs.WrittenForms.{WroteOtherForm};
+ghost use Rattle.mp4_remux_program.specs.WrittenParts.{WroteBetween};
 
+use crate::cut::{Times, write_between};
 use crate::movement::Move;
 use crate::refusal::Stop;
 use crate::write::write_fast_start;
@@ -12,7 +14,9 @@ use crate::write_edit::write_edited;
 use crate::write_forms::{write_fragments, write_tables};
 use mp4_io::Output;
 use mp4_remux::edits::{Shortcut, edits_of};
-use mp4_remux::forms::{Defragmented, FragmentOptions, Fragmented, plan_fragments, plan_tables};
+use mp4_remux::forms::{
+    Defragmented, FragmentOptions, Fragmented, PlannedPart, plan_fragments, plan_part, plan_tables,
+};
 use mp4_walk::Source;
 use std::alloc::Global;
 use std::fmt;
@@ -29,6 +33,8 @@ pub enum Task {
     Fragment(FragmentOptions),
     /// It is written with its samples in tables.
     Defragment,
+    /// The part of it between two times is written.
+    Cut(Times),
 }
 
 /// The result of a task.
@@ -49,6 +55,8 @@ pub enum Done {
         /// The number of samples in the new tables.
         samples: u64,
     },
+    /// This many samples are in the part.
+    Cut(u64),
 }
 
 /// Returns the word for this many fragments.
@@ -76,6 +84,7 @@ impl fmt::Display for Done {
                 let word = fragments_word(*fragments);
                 write!(f, "{fragments} {word} joined, {samples} samples")
             }
+            Done::Cut(samples) => write!(f, "{samples} samples"),
         }
     }
 }
@@ -182,6 +191,34 @@ fn defragment<S: Source, T: Source, P: Source, W: Write>(
     with_done(run, Done::Joined { fragments, samples })
 }
 
+/// Writes the part of the file `first` between two `times`. `second` is the same file, and so is `third`, which is read
+/// to plan the part.
+fn cut<S: Source, T: Source, P: Source, W: Write>(
+    alloc: Global,
+    times: Times,
+    first: S,
+    second: T,
+    third: P,
+    output: &mut Output<W>,
+) -> Result<Done, Stop>
+    ensures { IfSome (S.all first) (λ B. T.all second ≡ Some B
+        → WroteBetween times B (W.contents output.old.inner) (W.contents output.new.inner) result) }
+{
+    let planned = match plan_part(alloc, third, times.from, times.to) {
+        Ok(planned) => planned,
+        Err(stop) => return Err(Stop::from(stop)),
+    };
+    let PlannedPart {
+        plan,
+        origins,
+        samples,
+    } = planned;
+    match write_between(alloc, times, origins, first, second, plan, output) {
+        Ok(()) => Ok(Done::Cut(samples)),
+        Err(stop) => Err(stop),
+    }
+}
+
 /// Carries out `task` with the file `first`. `second` is the same file, since the old and the new file are compared.
 /// `third` is the same file, too: it is read to plan the new file. No clause speaks of it, since it does not matter how
 /// a plan was made.
@@ -201,5 +238,6 @@ pub(crate) fn carry_out<S: Source, T: Source, P: Source, W: Write>(
         Task::Edit(changes) => edit(alloc, changes, first, second, third, output),
         Task::Fragment(options) => fragment(alloc, options, first, second, third, output),
         Task::Defragment => defragment(alloc, first, second, third, output),
+        Task::Cut(times) => cut(alloc, times, first, second, third, output),
     }
 }

@@ -41,7 +41,7 @@ pub struct Defragmented {
 
 /// The facts of the new tables of a track.
 #[derive(Clone, Copy, Debug, PartialEq, Eq)]
-struct TableFacts {
+pub struct TableFacts {
     /// The number of bytes before the chunk offsets.
     length: usize,
     /// The number of chunks.
@@ -54,20 +54,27 @@ struct TableFacts {
 
 /// The new tables of a track, without chunk offsets.
 #[derive(Debug, Drop)]
-struct TrackTables {
+pub struct TrackTables {
     bytes: Vec<u8>,
     facts: TableFacts,
 }
 
 /// The new tables of all tracks, and the places of their chunks.
 #[derive(Drop)]
-struct AllTables {
+pub struct AllTables {
     /// The tables of each track.
-    tables: Vec<Vec<u8>>,
+    pub tables: Vec<Vec<u8>>,
     /// The facts of the tables of each track.
-    facts: Vec<TableFacts>,
+    pub facts: Vec<TableFacts>,
     /// The places of the chunks of all tracks.
-    places: Vec<ChunkPlace>,
+    pub places: Vec<ChunkPlace>,
+}
+
+impl TrackTables {
+    /// Returns the time at which the last sample ends.
+    pub(crate) fn end(&self) -> u64 {
+        self.facts.end
+    }
 }
 
 /// Refuses a file without an `mvex` and without a `moof`. Returns the number of `moof`s.
@@ -91,7 +98,7 @@ fn count_fragments(boxes: &[TreeBox]) -> Result<u64, FormRefusal> {
 }
 
 /// Refuses fragments of a track that the `moov` doesn't have. Returns the number of samples in fragments.
-fn check_groups(groups: &Groups, tracks: &Tracks) -> Result<u64, FormRefusal> {
+pub(crate) fn check_groups(groups: &Groups, tracks: &Tracks) -> Result<u64, FormRefusal> {
     let mut samples: u64 = 0;
     for (id, group) in groups.by_track.iter() {
         for fragment in &group.fragments {
@@ -145,7 +152,7 @@ fn add_samples(
 }
 
 /// Returns the groups of the samples of `track`, in its tables and its fragments.
-fn groups_of<S: Source>(
+pub(crate) fn groups_of<S: Source>(
     alloc: Global,
     walk: &mut BoxWalk<S>,
     track: &Track,
@@ -161,7 +168,7 @@ fn groups_of<S: Source>(
 }
 
 /// Returns the bytes of `tables`, with their facts. The `dependencies` of samples are listed if `is_more`.
-fn finished(
+pub(crate) fn finished(
     alloc: Global,
     tables: NewTables,
     dependencies: &[u8],
@@ -201,7 +208,7 @@ fn tables_of<S: Source>(
 }
 
 /// Adds the tables of a track to `all`.
-fn add_tables(all: &mut AllTables, tables: TrackTables) -> Result<(), FormStop> {
+pub(crate) fn add_tables(all: &mut AllTables, tables: TrackTables) -> Result<(), FormStop> {
     let TrackTables { bytes, facts } = tables;
     all.tables.push(bytes)?;
     all.facts.push(facts)?;
@@ -281,7 +288,11 @@ fn durations_of(
             movie: shown,
         })?;
     }
-    Ok(Durations { movie, tracks: all })
+    Ok(Durations {
+        movie,
+        tracks: all,
+        edits: Vec::new(alloc),
+    })
 }
 
 /// Returns the new `moov`, with places for chunk offsets of 64 bits each if `is_wide`.
@@ -423,7 +434,7 @@ fn movie_of<S: Source>(
 }
 
 /// Returns the plan of the new file, with its new tables.
-fn plan_file<S: Source>(
+pub(crate) fn plan_file<S: Source>(
     alloc: Global,
     walk: &mut BoxWalk<S>,
     boxes: &[TreeBox],
@@ -448,7 +459,7 @@ fn plan_file<S: Source>(
 }
 
 /// Returns the number of samples in the tables with these facts.
-fn count_in(facts: &[TableFacts]) -> u64 {
+pub(crate) fn count_in(facts: &[TableFacts]) -> u64 {
     let mut count: u64 = 0;
     for known in facts {
         count = count.saturating_add(u64::from(known.count));

@@ -32,6 +32,9 @@ pub struct Durations {
     pub movie: NewDuration,
     /// The durations of each track.
     pub tracks: Vec<TrackDurations>,
+    /// The new `edts` of each track, which is put after its `tkhd`. The old one is left out. If it is empty, all edit
+    /// lists are kept.
+    pub edits: Vec<Vec<u8>>,
 }
 
 /// The new parts of a `moov`.
@@ -250,6 +253,24 @@ impl<'a> Copying<'a> {
         Ok(())
     }
 
+    /// Returns whether edit lists are replaced.
+    fn has_edits(&self) -> bool {
+        match self.new.durations {
+            Some(durations) => !durations.edits.is_empty(),
+            None => false,
+        }
+    }
+
+    /// Puts the edit list of the track that has begun last, if it gets one.
+    fn put_edits(&mut self) -> Result<(), FormStop> {
+        if let Some(durations) = self.new.durations {
+            if let Some(edits) = durations.edits.get(self.begun.saturating_sub(1)) {
+                self.out.extend_from_slice(edits)?;
+            }
+        }
+        Ok(())
+    }
+
     /// Begins `found`, a box with `code` that is entered.
     fn enter(&mut self, found: &TreeBox, code: u32) -> Result<(), FormStop> {
         if found.depth == 1 {
@@ -312,13 +333,19 @@ impl<'a> Copying<'a> {
         }
         self.whole = None;
         self.close_to(found.depth)?;
+        if found.depth == 2 && code_of(found) == codes::EDTS && self.has_edits() {
+            self.whole = Some(found.depth);
+            return Ok(());
+        }
         match action_for(found)? {
             Action::Enter => self.enter(found, code_of(found))?,
             Action::Keep => {
                 self.whole = Some(found.depth);
                 self.copy(alloc, walk, found)?;
-                if found.depth == 5 && code_of(found) == codes::STSD {
-                    self.put_tables()?;
+                match (found.depth, code_of(found)) {
+                    (5, codes::STSD) => self.put_tables()?,
+                    (2, codes::TKHD) => self.put_edits()?,
+                    _ => {}
                 }
             }
             Action::Leave => self.whole = Some(found.depth),

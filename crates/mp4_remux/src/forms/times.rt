@@ -28,6 +28,21 @@ impl Time {
         product(nanoseconds, self.scale) <= product(self.ticks, SECOND)
     }
 
+    /// Returns whether this time is after a time of this many `nanoseconds`.
+    pub(crate) fn is_after(self, nanoseconds: u64) -> bool {
+        product(nanoseconds, self.scale) < product(self.ticks, SECOND)
+    }
+
+    /// Returns this time in ticks of another timescale, rounded, and up from a half, or the largest number of ticks.
+    pub(crate) fn nearest(self, scale: u32) -> u64 {
+        if self.scale == 0 {
+            return 0;
+        }
+        let half = u128::from(self.scale / 2);
+        let ticks = product(self.ticks, scale).saturating_add(half) / u128::from(self.scale);
+        u64::try_from(ticks).unwrap_or(u64::MAX)
+    }
+
     /// Returns this time in ticks of another timescale, rounded down, or the largest number of ticks.
     pub(crate) fn in_scale(self, scale: u32) -> u64 {
         if self.scale == 0 {
