@@ -1,14 +1,2 @@
 pub mod Destination
 pub mod Outcome
-pub mod Moved
-pub mod Places
-pub mod Offsets
-pub mod Movie
-pub mod Written
-pub mod Laws
-pub mod EditedMovie
-pub mod EditedFile
-pub mod WrittenEdits
-pub mod WrittenForms
-pub mod WrittenParts
-pub mod Tasks

@@ -1,7 +1,7 @@
 -- The end of a run of the program.
 use Rattle.std.specs.Prelude.{ℕ, Result, Ok, Err}
-use Rattle.mp4_remux_program.specs.declared.refusal.Stop.{Stop}
-use Rattle.mp4_remux_program.specs.declared.refusal.Stop.TheVariants as stops
+use Rattle.mp4_remux_files.specs.declared.refusal.Stop.{Stop}
+use Rattle.mp4_remux_files.specs.declared.refusal.Stop.TheVariants as stops
 use Rattle.mp4_remux_program.specs.declared.outcome.Outcome.{Outcome}
 use Rattle.mp4_remux_program.specs.declared.outcome.Outcome.TheVariants as outcomes
 

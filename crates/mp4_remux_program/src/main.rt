@@ -4,44 +4,26 @@
 #![tactic(auto)]
 
 mod argument;
-mod around;
 mod changes;
-mod compare;
-mod cut;
 mod destination;
-mod edited;
-mod editing;
-mod laws;
-mod movement;
-mod obstacle;
-mod offsets;
 mod outcome;
-mod place;
-mod planning;
 mod playlist;
 mod progress;
-mod rebuild;
-mod refusal;
 mod request;
 mod rewriting;
 mod seconds;
 mod segments;
-mod shift;
-mod task;
-mod write;
-mod write_edit;
-mod write_forms;
 
 use changes::{NoChanges, changes_of};
 use mp4_command::{NOT_UTF_8, unreadable};
 use mp4_io::Failure;
 use mp4_remux::forms::FragmentOptions;
+use mp4_remux_files::Task;
 use outcome::Outcome;
 use request::{Request, Work, requested};
 use rewriting::rewrite;
 use segments::write_segments;
 use std::process::ExitCode;
-use task::Task;
 
 /// Prints to standard error that a name is not UTF-8, if one of the names of files is not. Returns whether it did.
 fn tell_names(rt: &HostRuntime, from: &str, to: &str) -> bool {

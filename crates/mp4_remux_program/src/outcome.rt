@@ -3,8 +3,8 @@
 ghost use Rattle.std.specs.Prelude.{◌≡◌};
 ghost use Rattle.mp4_remux_program.specs.Outcome.{outcome_of, status_of};
 
-use crate::refusal::Stop;
 use mp4_command::MISUSE;
+use mp4_remux_files::Stop;
 
 /// The end of a run of the program that writes a file.
 #[derive(Clone, Copy, Debug, PartialEq, Eq)]

@@ -4,11 +4,11 @@ use crate::argument::{
     Argument, ArgumentError, brands, duration, insertion, language, removal, replacement, rotation,
     tag, time, track_of,
 };
-use crate::cut::Times;
 use clap::{Arg, ArgAction, ArgMatches, Command, Error};
 use mp4_command::{MISUSE, escaped, print_error, unreadable, words_of};
 use mp4_io::Failure;
 use mp4_remux::forms::FragmentOptions;
+use mp4_remux_files::Times;
 use std::alloc::{AllocError, Global};
 
 /// The work that a command line asks for.

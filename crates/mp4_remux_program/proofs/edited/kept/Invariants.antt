@@ -1,7 +1,0 @@
--- The boxes that are passed are filtered.
-use Rattle.std.proofs.Common.{◌≡◌, take}
-use Rattle.mp4_remux_program.specs.EditedMovie.{kept}
-use Rattle.mp4_remux_program.proofs.edited.kept.Given as goal
-
-abbrev pub invariant-loop-item : goal.invariant-loop-item
-invariant-loop-item l = l.found.items ≡ kept l.splices (take l.item-index l.boxes)
