@@ -124,7 +124,7 @@ spelled_last : (B : List ℕ) (p : Piece) → spelled B (p ∷ []) ≡ bytes_of 
 unfolding spelled
 spelled_last B p = append-nil (bytes_of B p)
 
-spelled_more : (B : List ℕ) (ps : List Piece) (i : ℕ) (p : Piece) → i < length ps → p ≡ slice_index_or ps i p
+pub spelled_more : (B : List ℕ) (ps : List Piece) (i : ℕ) (p : Piece) → i < length ps → p ≡ slice_index_or ps i p
     → spelled B (take (i + 1) ps) ≡ spelled B (take i ps) ++ bytes_of B p
 spelled_more B ps i p lt is =
     ap (spelled B) (take_more ps i p lt ∙ ap (λ (x : Piece). take i ps ++ x ∷ []) (sym is))

@@ -15,10 +15,10 @@ pub mod Steps
 pub mod Grouping
 pub mod BothFiles
 pub mod BothForms
-pub mod Writing
+pub mod PlannedFiles
+pub mod FlatPlans
 pub mod LastSamples
 pub mod RunSteps
 pub mod Origins
 pub mod CutTracks
-pub mod CutWriting
 pub mod Moments

@@ -81,7 +81,7 @@ pub known_length : (f : NewFile) (n : ℕ) → IfSome f.old (λ B. AreWithin (le
 known_length f n within is = known_by f.old f.pieces n within is
 
 -- bytes of a piece in the new file
-part_of : (B : List ℕ) (ps : List Piece) (i : ℕ) (p : Piece) (place skip n : ℕ) → AreWithin (length B) ps
+pub part_of : (B : List ℕ) (ps : List Piece) (i : ℕ) (p : Piece) (place skip n : ℕ) → AreWithin (length B) ps
     → i < length ps
     → p ≡ slice_index_or ps i p → lengths (take i ps) + skip ≡ place → skip + n ≤ long p
     → IsPartOf B (spelled B ps) p place skip n

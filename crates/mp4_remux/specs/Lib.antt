@@ -17,7 +17,6 @@ pub mod TrackLaws
 pub mod Groups
 pub mod Whole
 pub mod Carried
-pub mod Written
 pub mod Splices
 pub mod Spots
 pub mod Edits
@@ -28,4 +27,3 @@ pub mod Origins
 pub mod Parts
 pub mod PartLaws
 pub mod CarriedParts
-pub mod WrittenParts

@@ -8,6 +8,7 @@ use Rattle.mp4_movie.specs.Descriptions.{descriptions_of}
 use Rattle.mp4_movie.specs.Movies.{handler, timescale, track_id}
 use Rattle.mp4_samples.specs.Edits.{composition_time}
 use Rattle.mp4_samples.specs.declared.sample.Sample.{Sample}
+use Rattle.mp4_remux.specs.Origins.{HasOrigins}
 use Rattle.mp4_remux.specs.Told.{IsTeller, IsTold, at_track, count}
 use Rattle.mp4_remux.specs.Tracks.{IsGoing, number_of_track, teller_of}
 use Rattle.mp4_remux.specs.Whole.{IsSame, SameAnswer, track_count}
@@ -154,3 +155,7 @@ run_number s = s.passed
 pub record IsRunGoing (s : PartSamples) : Type 0 where
   pub going : IsGoing s.samples
   pub number : number_of_track s.samples ≡ s.first + s.passed
+
+-- the file C is the part p of the file B, by the edit lists of B
+abbrev pub IsPart : Part → List ℕ → List ℕ → Type 0
+IsPart p B C = HasOrigins p B × KeepsPart p B C

@@ -1,6 +1,6 @@
 //! The two forms of a file: samples in fragments, or in tables. Plans the fragmented form of a file with tables, and
-//! the form with tables of a fragmented file. No clause says how a plan is made: `write_form` writes only a file of the
-//! other form that keeps every sample of every track.
+//! the form with tables of a fragmented file. No clause says how a plan is made: `check_in_form` accepts only a file of
+//! the other form that keeps every sample of every track.
 
 mod budget;
 mod chunk_place;
@@ -20,6 +20,7 @@ mod new_bytes;
 mod new_edits;
 mod new_tables;
 mod obstacles;
+mod planned;
 mod ranges;
 mod refusal;
 mod rendering;
@@ -27,12 +28,11 @@ mod sample_groups;
 mod times;
 mod tops;
 mod tracks;
-mod write;
 
 pub use cutting::{PlannedPart, plan_part};
 pub use defragmenting::{Defragmented, plan_tables};
 pub use form::Form;
 pub use fragment_part::FragmentPart;
 pub use fragmenting::{FragmentOptions, Fragmented, plan_fragments};
+pub use planned::check_in_form;
 pub use refusal::FormRefusal;
-pub use write::write_form;

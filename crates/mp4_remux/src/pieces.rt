@@ -2,6 +2,7 @@
 //! come from the old one, and reads and writes the new file without making it in memory.
 
 mod carried;
+mod flat;
 mod holes;
 pub mod laws;
 mod piece;
@@ -10,6 +11,7 @@ mod source;
 mod write;
 
 pub use carried::{carries, carries_after};
+pub use flat::{are_alike, flat_plan};
 pub use holes::{Hole, are_equal_except};
 pub use piece::{Piece, are_within};
 pub use plan::{Place, Plan, PlanError};

@@ -83,13 +83,13 @@ pub enum Refusal {
     Part(PartRefusal),
 }
 
-/// The reason why a new file is not written, or not to its end.
+/// The reason why a new file is not planned.
 #[derive(Debug, Drop, thiserror::Error)]
 pub enum Stop {
-    /// The plan is refused. Nothing is written.
+    /// The plan is refused.
     #[error("{0}")]
     Refused(Refusal),
-    /// Reading or writing failed, or memory was refused. A beginning of the new file is written.
+    /// Reading failed, or memory was refused.
     #[error("{0}")]
     Failed(Failure),
 }

@@ -3,8 +3,7 @@ pub mod Boxes
 pub mod Parts
 pub mod Plans
 pub mod Puts
-pub mod Tasks
 pub mod WholeEdits
-pub mod Writing
-pub mod WritingEdits
-pub mod Cuts
+pub mod FastStarts
+pub mod EditedFiles
+pub mod Tasks

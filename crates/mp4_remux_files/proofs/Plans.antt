@@ -12,7 +12,7 @@ use Rattle.mp4_remux.specs.declared.pieces.piece.Piece.TheVariants.{Old}
 use Rattle.mp4_walk.specs.Source.{IsWindow}
 use Rattle.mp4_remux_files.specs.Moved.{AddsPart, moved_file}
 use Rattle.mp4_remux_files.specs.Movie.{IsMovieAfter}
-use Rattle.mp4_remux_files.specs.Written.{PlansMove, movie_of}
+use Rattle.mp4_remux_files.specs.FastStarts.{PlansMove, movie_of}
 use Rattle.mp4_remux_files.specs.declared.movement.Move.{Move}
 
 no_pieces : (B : List ℕ) (ps : List Piece) → ps ≡ [] → spelled B ps ≡ []

@@ -1,109 +1,103 @@
--- The output of each task.
+-- The new file of each task, and the output.
 use Rattle.std.proofs.Common.{◌≡◌, ℕ, inl, inr, List, [], length, None, Some, Result, Ok, Err, refl, sym, ap, subst}
+use Rattle.std.proofs.Common.{◌∙◌}
 use Rattle.std.specs.Prelude.{◌⊎◌, IfSome}
 use Rattle.std.specs.declared.option.Option.{Option}
 use Rattle.std.proofs.KnownBytes.{Appends-nil}
+use Rattle.std.proofs.lemmas.Option.{none-some, same_Some}
+use Rattle.std.specs.Io.KnownBytes.{Appends}
 use Rattle.mp4_remux.proofs.Beginnings.{nothing}
+use Rattle.mp4_remux.specs.NewFiles.{spelled_by}
+use Rattle.mp4_remux.specs.Parts.{IsPart}
 use Rattle.mp4_remux.specs.Pieces.{spelled}
-use Rattle.mp4_remux.specs.declared.edits.edit.Edit.{Edit}
+use Rattle.mp4_remux.specs.WrittenPieces.{Begins}
 use Rattle.mp4_remux.specs.declared.edits.shortcut.Shortcut.{Shortcut}
-use Rattle.mp4_remux.specs.declared.forms.form.Form.{Form}
+use Rattle.mp4_remux.specs.declared.parts.part.Part.{Part}
 use Rattle.mp4_remux.specs.declared.pieces.piece.Piece.{Piece}
-use Rattle.mp4_remux_files.specs.Tasks.{MadeChanges, with_done}
-use Rattle.mp4_remux_files.specs.WrittenEdits.{AreEditsFor, WroteEdited}
-use Rattle.mp4_remux_files.specs.WrittenForms.{WroteIn, WroteOtherForm}
+use Rattle.mp4_remux_files.specs.Cuts.{IsAsked, IsCut}
+use Rattle.mp4_remux_files.specs.EditedFile.{ChangesFile}
+use Rattle.mp4_remux_files.specs.FastStarts.{StartsFile}
+use Rattle.mp4_remux_files.specs.Tasks.{DoesTask, MakesChanges, MakesFile, StartsAs, WroteDone}
+use Rattle.mp4_remux_files.specs.declared.cut.Times.{Times}
+use Rattle.mp4_remux_files.specs.declared.movement.Move.{Move}
 use Rattle.mp4_remux_files.specs.declared.refusal.Stop.{Stop}
 use Rattle.mp4_remux_files.specs.declared.refusal.Stop.TheVariants.{Failed, Refused}
 use Rattle.mp4_remux_files.specs.declared.task.Done.{Done}
 use Rattle.mp4_remux_files.specs.declared.task.Done.TheVariants as results
+use Rattle.mp4_remux_files.specs.declared.task.Task.{Task}
+
+-- the plan over the same bytes is the same file
+pub same_source : (r s : Option (List ℕ)) (qs : List Piece) → s ≡ r
+    → IfSome r (λ B. spelled_by s qs ≡ Some (spelled B qs))
+same_source None s qs sr = tt
+same_source (Some B) s qs sr = ap (λ (o : Option (List ℕ)). spelled_by o qs) sr
+
+-- the part has the times that are asked for
+pub cut_between : (t : Times) (p : Part) (r again : Option (List ℕ)) (qs : List Piece) → IsAsked t p
+    → IfSome r (λ B. again ≡ Some B → IsPart p B (spelled B qs))
+    → IfSome r (λ B. again ≡ Some B → IsCut t B (spelled B qs))
+cut_between t p None again qs asked is = tt
+cut_between t p (Some B) again qs asked is = λ same. (p, asked, is same)
+
+-- the move is the result
+pub starts_moved : (r again : Option (List ℕ)) (how : Option Move) (c : Move) (qs : List Piece) → how ≡ Some c
+    → IfSome r (λ B. again ≡ Some B → StartsFile B how (spelled B qs))
+    → IfSome r (λ B. again ≡ Some B → StartsAs B (results.Moved c) (spelled B qs))
+starts_moved None again how c qs some starts = tt
+starts_moved (Some B) again how c qs some starts = λ same.
+    subst (λ (h : Option Move). StartsFile B h (spelled B qs)) some (starts same)
+
+pub starts_copied : (r again : Option (List ℕ)) (how : Option Move) (qs : List Piece) → how ≡ None
+    → IfSome r (λ B. again ≡ Some B → StartsFile B how (spelled B qs))
+    → IfSome r (λ B. again ≡ Some B → StartsAs B results.Copied (spelled B qs))
+starts_copied None again how qs none starts = tt
+starts_copied (Some B) again how qs none starts = λ same.
+    subst (λ (h : Option Move). StartsFile B h (spelled B qs)) none (starts same)
+
+-- the changes are counted
+pub changes_made : (r again : Option (List ℕ)) (changes : List Shortcut) (n : ℕ) (qs : List Piece)
+    → n ≡ length changes → IfSome r (λ B. again ≡ Some B → ChangesFile B changes (spelled B qs))
+    → IfSome r (λ B. again ≡ Some B → MakesChanges B changes (results.Edited n) (spelled B qs))
+changes_made None again changes n qs many changed = tt
+changes_made (Some B) again changes n qs many changed = λ same. (ap results.Edited many, changed same)
 
 -- nothing is written before a stop
-pub changes_stopped : (r again : Option (List ℕ)) (ss : List Shortcut) (out : Option (List ℕ)) (stop : Stop)
-    → IfSome r (λ B. again ≡ Some B → MadeChanges B ss out out (Err stop))
-changes_stopped None again ss out stop = tt
-changes_stopped (Some B) again ss out (Refused x) = λ _. Appends-nil out
-changes_stopped (Some B) again ss out (Failed f) = λ _. ([], inl refl, nothing out [])
+pub task_stopped : (task : Task) (r again out : Option (List ℕ)) (stop : Stop)
+    → IfSome r (λ B. again ≡ Some B → DoesTask task B out out (Err stop))
+task_stopped task None again out stop = tt
+task_stopped task (Some B) again out (Refused x) = λ _. Appends-nil out
+task_stopped task (Some B) again out (Failed f) = λ _. ([], inl refl, nothing out [])
 
-pub form_not_planned : (A : Type 0) (f : Form) (r again : Option (List ℕ)) (out : Option (List ℕ)) (stop : Stop)
-    → IfSome r (λ B. again ≡ Some B → WroteOtherForm {A = A} f B out out (Err stop))
-form_not_planned A f None again out stop = tt
-form_not_planned A f (Some B) again out (Refused x) = λ _. Appends-nil out
-form_not_planned A f (Some B) again out (Failed e) = λ _. ([], inl refl, nothing out [])
+wrote_task : (task : Task) (B C : List ℕ) (done : Done) (old new : Option (List ℕ)) (res : Result Done Stop)
+    → MakesFile task B done C → WroteDone C done old new res → DoesTask task B old new res
+wrote_task task B C done old new (Ok d) makes wrote =
+    (C, subst (λ (x : Done). MakesFile task B x C) (sym wrote.0) makes, wrote.1)
+wrote_task task B C done old new (Err (Refused r)) makes wrote = absurd wrote
+wrote_task task B C done old new (Err (Failed f)) makes wrote = (C, inr (done, makes), wrote)
 
--- the edits of the shortcuts are made, and counted
-changed : (A : Type 0) (x : A) (n : ℕ) (r again : Option (List ℕ)) (ss : List Shortcut) (es : List Edit)
-    (old new : Option (List ℕ)) → n ≡ length ss → AreEditsFor ss es
-    → IfSome r (λ B. again ≡ Some B → WroteEdited {A = A} B es old new (Ok x))
-    → IfSome r (λ B. again ≡ Some B → MadeChanges B ss old new (Ok (results.Edited n)))
-changed A x n None again ss es old new many are wrote = tt
-changed A x n (Some B) again ss es old new many are wrote = λ same.
-    (ap (λ (k : ℕ). results.Edited k) many, (es, are, wrote same))
+-- the source spells out the file C
+wrote_by : (task : Task) (B C : List ℕ) (done : Done) (o : Option (List ℕ)) (qs : List Piece)
+    (old new : Option (List ℕ)) (res : Result Done Stop) → MakesFile task B done C → spelled_by o qs ≡ Some C
+    → IfSome o (λ D. WroteDone (spelled D qs) done old new res) → DoesTask task B old new res
+wrote_by task B C done None qs old new res makes spells wrote = absurd (none-some C spells)
+wrote_by task B C done (Some D) qs old new res makes spells wrote =
+    let is : spelled D qs ≡ C = same_Some (spelled D qs) C spells in
+    wrote_task task B C done old new res makes (subst (λ (X : List ℕ). WroteDone X done old new res) is wrote)
 
-not_changed : (A : Type 0) (B : List ℕ) (ss : List Shortcut) (es : List Edit) (old new : Option (List ℕ))
-    (stop : Stop) → AreEditsFor ss es → WroteEdited {A = A} B es old new (Err stop)
-    → MadeChanges B ss old new (Err stop)
-not_changed A B ss es old new (Refused x) are wrote = wrote
-not_changed A B ss es old new (Failed f) are wrote = (
-  wrote.0,
-  elim wrote.1 [
-    | inl none ↦ inl none
-    | inr edit ↦ inr (es, are, edit)
-  ],
-  wrote.2,
-)
+-- the new file is planned and written
+pub task_written : (task : Task) (r again o : Option (List ℕ)) (done : Done) (qs : List Piece)
+    (old new : Option (List ℕ)) (res : Result Done Stop)
+    → IfSome r (λ B. spelled_by o qs ≡ Some (spelled B qs))
+    → IfSome r (λ B. again ≡ Some B → MakesFile task B done (spelled B qs))
+    → IfSome o (λ D. WroteDone (spelled D qs) done old new res)
+    → IfSome r (λ B. again ≡ Some B → DoesTask task B old new res)
+task_written task None again o done qs old new res spells makes wrote = tt
+task_written task (Some B) again o done qs old new res spells makes wrote = λ same.
+    wrote_by task B (spelled B qs) done o qs old new res (makes same) spells wrote
 
-changes_failed : (A : Type 0) (r again : Option (List ℕ)) (ss : List Shortcut) (es : List Edit)
-    (old new : Option (List ℕ)) (stop : Stop) → AreEditsFor ss es
-    → IfSome r (λ B. again ≡ Some B → WroteEdited {A = A} B es old new (Err stop))
-    → IfSome r (λ B. again ≡ Some B → MadeChanges B ss old new (Err stop))
-changes_failed A None again ss es old new stop are wrote = tt
-changes_failed A (Some B) again ss es old new stop are wrote = λ same.
-    not_changed A B ss es old new stop are (wrote same)
-
--- the edits of the shortcuts are made, or not
-pub changes_done : (A : Type 0) (r again : Option (List ℕ)) (n : ℕ) (ss : List Shortcut) (es : List Edit)
-    (old new : Option (List ℕ)) (run : Result A Stop) (res : Result Done Stop) → n ≡ length ss → AreEditsFor ss es
-    → res ≡ with_done (results.Edited n) run
-    → IfSome r (λ B. again ≡ Some B → WroteEdited B es old new run)
-    → IfSome r (λ B. again ≡ Some B → MadeChanges B ss old new res)
-changes_done A r again n ss es old new (Ok x) res many are is wrote =
-    subst (λ (s : Result Done Stop). IfSome r (λ B. again ≡ Some B → MadeChanges B ss old new s)) (sym is)
-    (changed A x n r again ss es old new many are wrote)
-changes_done A r again n ss es old new (Err stop) res many are is wrote =
-    subst (λ (s : Result Done Stop). IfSome r (λ B. again ≡ Some B → MadeChanges B ss old new s)) (sym is)
-    (changes_failed A r again ss es old new stop are wrote)
-
--- the plan of another form is written
-form_planned : (A D : Type 0) (x : A) (d : D) (f : Form) (r again : Option (List ℕ)) (ps : List Piece)
-    (old new : Option (List ℕ)) → IfSome r (λ B. again ≡ Some B → WroteIn {A = A} f B ps old new (Ok x))
-    → IfSome r (λ B. again ≡ Some B → WroteOtherForm {A = D} f B old new (Ok d))
-form_planned A D x d f None again ps old new wrote = tt
-form_planned A D x d f (Some B) again ps old new wrote = λ same.
-    let done = wrote same in
-    (spelled B ps, done.0, done.1)
-
-not_planned : (A D : Type 0) (f : Form) (B : List ℕ) (ps : List Piece) (old new : Option (List ℕ)) (stop : Stop)
-    → WroteIn {A = A} f B ps old new (Err stop) → WroteOtherForm {A = D} f B old new (Err stop)
-not_planned A D f B ps old new (Refused x) wrote = wrote
-not_planned A D f B ps old new (Failed e) wrote = elim wrote [
-  | inl none ↦ ([], inl refl, ([], [], refl, none))
-  | inr begun ↦ (spelled B ps, inr begun.0, begun.1)
-]
-
-form_failed : (A D : Type 0) (f : Form) (r again : Option (List ℕ)) (ps : List Piece) (old new : Option (List ℕ))
-    (stop : Stop) → IfSome r (λ B. again ≡ Some B → WroteIn {A = A} f B ps old new (Err stop))
-    → IfSome r (λ B. again ≡ Some B → WroteOtherForm {A = D} f B old new (Err stop))
-form_failed A D f None again ps old new stop wrote = tt
-form_failed A D f (Some B) again ps old new stop wrote = λ same. not_planned A D f B ps old new stop (wrote same)
-
--- the plan of another form is written, or not
-pub form_done : (A : Type 0) (f : Form) (r again : Option (List ℕ)) (ps : List Piece) (old new : Option (List ℕ))
-    (run : Result A Stop) (d : Done) (res : Result Done Stop) → res ≡ with_done d run
-    → IfSome r (λ B. again ≡ Some B → WroteIn f B ps old new run)
-    → IfSome r (λ B. again ≡ Some B → WroteOtherForm f B old new res)
-form_done A f r again ps old new (Ok x) d res is wrote =
-    subst (λ (s : Result Done Stop). IfSome r (λ B. again ≡ Some B → WroteOtherForm f B old new s)) (sym is)
-    (form_planned A Done x d f r again ps old new wrote)
-form_done A f r again ps old new (Err stop) d res is wrote =
-    subst (λ (s : Result Done Stop). IfSome r (λ B. again ≡ Some B → WroteOtherForm f B old new s)) (sym is)
-    (form_failed A Done f r again ps old new stop wrote)
+-- all is written, with the result
+pub done_written : (o : Option (List ℕ)) (done : Done) (qs : List Piece) (old new : Option (List ℕ))
+    → IfSome o (λ D. Appends old new (spelled D qs))
+    → IfSome o (λ D. WroteDone (spelled D qs) done old new (Ok done))
+done_written None done qs old new wrote = tt
+done_written (Some D) done qs old new wrote = (refl, wrote)

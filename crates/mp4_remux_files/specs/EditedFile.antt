@@ -1,7 +1,7 @@
 -- A file after edits: what else is kept. Both are whole files.
 use Rattle.std.specs.Prelude.{ℕ, ◌≡◌, ◌+◌, ◌<◌, ◌≤◌, ◌==◌, ◌&&◌, ◌||◌, All, Bool, IsTrue, false, not, nat_le, nat_lt}
 use Rattle.std.specs.Prelude.{List, [], ◌∷◌, ◌++◌, length, filter, None, Some}
-use Rattle.std.specs.List.{AllZip, list_any}
+use Rattle.std.specs.List.{AllZip, flat_map, list_any}
 use Rattle.std.specs.declared.option.Option.{Option}
 use Rattle.mp4_frame.specs.FourCC.{four_cc_of}
 use Rattle.mp4_frame.specs.declared.codes.TheConstants as codes
@@ -10,9 +10,11 @@ use Rattle.mp4_walk.specs.Paths.{is_code}
 use Rattle.mp4_walk.specs.Source.{piece}
 use Rattle.mp4_walk.specs.declared.tree_box.TreeBox.{TreeBox}
 use Rattle.mp4_remux.specs.Edits.{AreNamed}
+use Rattle.mp4_remux.specs.Shortcuts.{HidesDropped, asked_by, dropped_by, other_by}
 use Rattle.mp4_remux.specs.Splices.{AreInOrder, box_end, is_top, is_uneven, removed, spliced}
 use Rattle.mp4_remux.specs.Whole.{KeepsMedia}
 use Rattle.mp4_remux.specs.declared.edits.edit.Edit.{Edit}
+use Rattle.mp4_remux.specs.declared.edits.shortcut.Shortcut.{Shortcut}
 use Rattle.mp4_remux.specs.declared.edits.splice.Splice.{Splice}
 use Rattle.mp4_remux_files.specs.EditedMovie.{IsMovieEdited}
 use Rattle.mp4_remux_files.specs.Places.{counts_from_front, first_box, leads_on}
@@ -94,6 +96,10 @@ pub record AreTopsOf (B : List ℕ) (ss all : List Splice) : Type 0 where
 abbrev pub IsEdited : List ℕ → List Splice → List ℕ → Type 0
 IsEdited B ss C = (all : List Splice) × AreTopsOf B ss all × (C ≡ spliced B all)
 
+-- the same, and the media are kept
+abbrev pub KeepsEdited : List ℕ → List Splice → List ℕ → Type 0
+KeepsEdited B ss C = IsEdited B ss C × KeepsMedia B C
+
 -- The file C is the file B after these edits. In the file that the hidden splices make of B, the boxes of dropped
 -- tracks are `free` boxes. So that is B without these tracks, and C is an edit of it
 pub record IsEditOf (B : List ℕ) (edits : List Edit) (C : List ℕ) : Type 0 where
@@ -107,3 +113,14 @@ pub record IsEditOf (B : List ℕ) (edits : List Edit) (C : List ℕ) : Type 0 w
 pub record EditsFile (B : List ℕ) (edits : List Edit) (C : List ℕ) : Type 0 where
   pub edit : IsEditOf B edits C
   pub media : KeepsMedia (spliced B edit.hidden) C
+
+-- the edits for these shortcuts: first those that are edits themselves, and no box is hidden but those of tracks that
+-- the shortcuts drop
+pub record AreEditsFor (shortcuts : List Shortcut) (edits : List Edit) : Type 0 where
+  pub asked : (more : List Edit) × (edits ≡ flat_map asked_by shortcuts ++ more)
+  pub only : flat_map other_by shortcuts ≡ [] → edits ≡ flat_map asked_by shortcuts
+  pub dropped : All (HidesDropped (flat_map dropped_by shortcuts)) edits
+
+-- the file C is an edit of B for these shortcuts
+abbrev pub ChangesFile : List ℕ → List Shortcut → List ℕ → Type 0
+ChangesFile B ss C = (es : List Edit) × AreEditsFor ss es × EditsFile B es C

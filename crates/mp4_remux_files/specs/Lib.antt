@@ -2,11 +2,9 @@ pub mod Moved
 pub mod Places
 pub mod Offsets
 pub mod Movie
-pub mod Written
+pub mod FastStarts
 pub mod Laws
 pub mod EditedMovie
 pub mod EditedFile
-pub mod WrittenEdits
-pub mod WrittenForms
-pub mod WrittenParts
+pub mod Cuts
 pub mod Tasks

@@ -5,8 +5,10 @@
 mod around;
 mod compare;
 mod cut;
+mod edit_plans;
 mod edited;
 mod editing;
+mod fast_starts;
 pub mod laws;
 mod movement;
 mod obstacle;
@@ -17,15 +19,9 @@ mod rebuild;
 mod refusal;
 mod shift;
 mod task;
-mod write;
-mod write_edit;
-mod write_forms;
 
-pub use cut::{Times, write_between, write_cut};
+pub use cut::Times;
 pub use movement::Move;
 pub use obstacle::Obstacle;
 pub use refusal::{Refusal, Stop};
-pub use task::{Done, Task, carry_out};
-pub use write::write_fast_start;
-pub use write_edit::write_edited;
-pub use write_forms::{write_fragments, write_tables};
+pub use task::{Done, Task, carry_out, plan_task};

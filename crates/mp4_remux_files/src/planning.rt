@@ -2,7 +2,7 @@
 
 ghost use Rattle.std.specs.Prelude.{◌≡◌, ◌-◌, ◌≤◌, ◌++◌, ℕ, List, length, take, drop, IfOk, IfSome, IsTrue, OnOk};
 ghost use Rattle.mp4_remux_files.specs.Moved.{AddsPart, moved_file};
-ghost use Rattle.mp4_remux_files.specs.Written.{PlansMove, movie_of};
+ghost use Rattle.mp4_remux_files.specs.FastStarts.{PlansMove, movie_of};
 ghost use Rattle.mp4_remux.specs.Pieces.{bytes_of, spelled};
 ghost use Rattle.mp4_walk.specs.Source.{IsWindow};
 

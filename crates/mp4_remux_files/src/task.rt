@@ -1,22 +1,25 @@
-//! The tasks of the program, each with a file.
+//! The tasks that can be done with a file.
 
-ghost use Rattle.std.specs.Prelude.{◌≡◌, Some, IfSome};
+ghost use Rattle.std.specs.Prelude.{◌≡◌, Some, length, IfOk, IfSome};
+ghost use Rattle.mp4_remux.specs.Forms.{ChangesForm};
+ghost use Rattle.mp4_remux.specs.NewFiles.{spelled_by};
+ghost use Rattle.mp4_remux.specs.Pieces.{AreWithin, spelled};
 ghost use Rattle.mp4_remux.specs.declared.forms.form.Form.TheVariants as forms;
-ghost use Rattle.mp4_remux_files.specs.Tasks.{DoesTask, MadeChanges, MovedOrCopied, with_done};
-ghost use Rattle.mp4_remux_files.specs.WrittenForms.{WroteOtherForm};
-ghost use Rattle.mp4_remux_files.specs.WrittenParts.{WroteBetween};
+ghost use Rattle.mp4_remux_files.specs.Cuts.{IsCut};
+ghost use Rattle.mp4_remux_files.specs.Tasks.{DoesTask, MakesChanges, MakesFile, StartsAs, WroteDone};
 
-use crate::cut::{Times, write_between};
+use crate::cut::{Times, check_cut};
+use crate::edit_plans::plan_changes;
+use crate::fast_starts::plan_fast_start;
 use crate::movement::Move;
 use crate::refusal::Stop;
-use crate::write::write_fast_start;
-use crate::write_edit::write_edited;
-use crate::write_forms::{write_fragments, write_tables};
 use mp4_io::Output;
-use mp4_remux::edits::{Shortcut, edits_of};
+use mp4_remux::edits::Shortcut;
 use mp4_remux::forms::{
-    Defragmented, FragmentOptions, Fragmented, PlannedPart, plan_fragments, plan_part, plan_tables,
+    Defragmented, Form, FragmentOptions, Fragmented, PlannedPart, check_in_form, plan_fragments,
+    plan_part, plan_tables,
 };
+use mp4_remux::{PlannedFile, write_planned};
 use mp4_walk::Source;
 use std::alloc::Global;
 use std::fmt;
@@ -89,139 +92,161 @@ impl fmt::Display for Done {
     }
 }
 
-/// Writes the file `first` with its `moov` before its media data. `second` is the same file.
-fn fast_start<S: Source, T: Source, W: Write>(
+/// Plans the file `first` with its `moov` before its media data. `second` is the same file.
+fn plan_start<S: Source, T: Source>(
     alloc: Global,
     first: S,
     second: T,
-    output: &mut Output<W>,
-) -> Result<Done, Stop>
-    ensures { IfSome (S.all first) (λ B. T.all second ≡ Some B
-        → MovedOrCopied B (W.contents output.old.inner) (W.contents output.new.inner) result) }
+) -> Result<(PlannedFile<S>, Done), Stop>
+    ensures source { IfOk result (λ r. IfSome (S.all first)
+        (λ B. spelled_by (S.all r.0.source) r.0.plan.value ≡ Some (spelled B r.0.plan.value))) }
+    ensures within { IfOk result (λ r. IfSome (S.all first) (λ B. AreWithin (length B) r.0.plan.value)) }
+    ensures file { IfOk result (λ r. IfSome (S.all first)
+        (λ B. T.all second ≡ Some B → StartsAs B r.1 (spelled B r.0.plan.value))) }
 {
-    match write_fast_start(alloc, first, second, output) {
-        Ok(Some(moved)) => Ok(Done::Moved(moved)),
-        Ok(None) => Ok(Done::Copied),
-        Err(stop) => Err(stop),
+    let (planned, shift) = plan_fast_start(alloc, first, second)?;
+    match shift {
+        Some(moved) => Ok((planned, Done::Moved(moved))),
+        None => Ok((planned, Done::Copied)),
     }
 }
 
-/// Returns `done` after a `run` that has written everything, and else the reason for stopping.
-fn with_done(run: Result<(), Stop>, done: Done) -> Result<Done, Stop>
-    ensures { result ≡ with_done done run }
-{
-    match run {
-        Ok(()) => Ok(done),
-        Err(stop) => Err(stop),
-    }
-}
-
-/// Writes the file `first` with `changes`. `second` is the same file, and so is `third`, in which the changes find
-/// their edits.
-fn edit<S: Source, T: Source, P: Source, W: Write>(
+/// Plans the file `first` with `changes`. `second` is the same file, and so is `third`, in which the changes find their
+/// edits.
+fn plan_edit<S: Source, T: Source, P: Source>(
     alloc: Global,
     changes: Vec<Shortcut>,
     first: S,
     second: T,
     third: P,
-    output: &mut Output<W>,
-) -> Result<Done, Stop>
-    ensures { IfSome (S.all first) (λ B. T.all second ≡ Some B
-        → MadeChanges B changes.items (W.contents output.old.inner) (W.contents output.new.inner) result) }
+) -> Result<(PlannedFile<S>, Done), Stop>
+    ensures source { IfOk result (λ r. IfSome (S.all first)
+        (λ B. spelled_by (S.all r.0.source) r.0.plan.value ≡ Some (spelled B r.0.plan.value))) }
+    ensures within { IfOk result (λ r. IfSome (S.all first) (λ B. AreWithin (length B) r.0.plan.value)) }
+    ensures file { IfOk result (λ r. IfSome (S.all first)
+        (λ B. T.all second ≡ Some B → MakesChanges B changes.items r.1 (spelled B r.0.plan.value))) }
 {
     let count = changes.len();
-    let edits = match edits_of(alloc, third, changes) {
-        Ok(edits) => edits,
-        Err(stop) => return Err(Stop::from(stop)),
-    };
-    let run = write_edited(alloc, first, second, &edits, output);
-    with_done(run, Done::Edited(count))
+    let planned = plan_changes(alloc, changes, first, second, third)?;
+    Ok((planned, Done::Edited(count)))
 }
 
-/// Writes the file `first` with its samples in fragments. `second` is the same file, and so is `third`, which is read
-/// to plan the fragments.
-fn fragment<S: Source, T: Source, P: Source, W: Write>(
+/// Plans the file `first` with its samples in fragments. `second` is the same file, and so is `third`, which is read to
+/// plan the fragments.
+fn plan_fragmented<S: Source, T: Source, P: Source>(
     alloc: Global,
     options: FragmentOptions,
     first: S,
     second: T,
     third: P,
-    output: &mut Output<W>,
-) -> Result<Done, Stop>
-    ensures { IfSome (S.all first) (λ B. T.all second ≡ Some B
-        → WroteOtherForm forms.Fragments B (W.contents output.old.inner) (W.contents output.new.inner) result) }
+) -> Result<(PlannedFile<S>, Done), Stop>
+    ensures source { IfOk result (λ r. IfSome (S.all first)
+        (λ B. spelled_by (S.all r.0.source) r.0.plan.value ≡ Some (spelled B r.0.plan.value))) }
+    ensures within { IfOk result (λ r. IfSome (S.all first) (λ B. AreWithin (length B) r.0.plan.value)) }
+    ensures file { IfOk result (λ r. IfSome (S.all first)
+        (λ B. T.all second ≡ Some B → ChangesForm forms.Fragments B (spelled B r.0.plan.value))) }
 {
-    let fragmented = match plan_fragments(alloc, third, options) {
-        Ok(fragmented) => fragmented,
-        Err(stop) => return Err(Stop::from(stop)),
-    };
     let Fragmented {
         plan,
         init_length: _,
         scale: _,
         parts,
-    } = fragmented;
-    let count = parts.len();
-    let run = write_fragments(alloc, first, second, plan, output);
-    with_done(run, Done::Fragmented(count))
+    } = plan_fragments(alloc, third, options)?;
+    let planned = check_in_form(alloc, Form::Fragments, first, second, plan)?;
+    Ok((planned, Done::Fragmented(parts.len())))
 }
 
-/// Writes the file `first` with its samples in tables. `second` is the same file, and so is `third`, which is read to
+/// Plans the file `first` with its samples in tables. `second` is the same file, and so is `third`, which is read to
 /// plan the tables.
-fn defragment<S: Source, T: Source, P: Source, W: Write>(
+fn plan_joined<S: Source, T: Source, P: Source>(
     alloc: Global,
     first: S,
     second: T,
     third: P,
-    output: &mut Output<W>,
-) -> Result<Done, Stop>
-    ensures { IfSome (S.all first) (λ B. T.all second ≡ Some B
-        → WroteOtherForm forms.Tables B (W.contents output.old.inner) (W.contents output.new.inner) result) }
+) -> Result<(PlannedFile<S>, Done), Stop>
+    ensures source { IfOk result (λ r. IfSome (S.all first)
+        (λ B. spelled_by (S.all r.0.source) r.0.plan.value ≡ Some (spelled B r.0.plan.value))) }
+    ensures within { IfOk result (λ r. IfSome (S.all first) (λ B. AreWithin (length B) r.0.plan.value)) }
+    ensures file { IfOk result (λ r. IfSome (S.all first)
+        (λ B. T.all second ≡ Some B → ChangesForm forms.Tables B (spelled B r.0.plan.value))) }
 {
-    let joined = match plan_tables(alloc, third) {
-        Ok(joined) => joined,
-        Err(stop) => return Err(Stop::from(stop)),
-    };
     let Defragmented {
         plan,
         fragments,
         samples,
-    } = joined;
-    let run = write_tables(alloc, first, second, plan, output);
-    with_done(run, Done::Joined { fragments, samples })
+    } = plan_tables(alloc, third)?;
+    let planned = check_in_form(alloc, Form::Tables, first, second, plan)?;
+    Ok((planned, Done::Joined { fragments, samples }))
 }
 
-/// Writes the part of the file `first` between two `times`. `second` is the same file, and so is `third`, which is read
+/// Plans the part of the file `first` between two `times`. `second` is the same file, and so is `third`, which is read
 /// to plan the part.
-fn cut<S: Source, T: Source, P: Source, W: Write>(
+fn plan_cut<S: Source, T: Source, P: Source>(
     alloc: Global,
     times: Times,
     first: S,
     second: T,
     third: P,
-    output: &mut Output<W>,
-) -> Result<Done, Stop>
-    ensures { IfSome (S.all first) (λ B. T.all second ≡ Some B
-        → WroteBetween times B (W.contents output.old.inner) (W.contents output.new.inner) result) }
+) -> Result<(PlannedFile<S>, Done), Stop>
+    ensures source { IfOk result (λ r. IfSome (S.all first)
+        (λ B. spelled_by (S.all r.0.source) r.0.plan.value ≡ Some (spelled B r.0.plan.value))) }
+    ensures within { IfOk result (λ r. IfSome (S.all first) (λ B. AreWithin (length B) r.0.plan.value)) }
+    ensures file { IfOk result (λ r. IfSome (S.all first)
+        (λ B. T.all second ≡ Some B → IsCut times B (spelled B r.0.plan.value))) }
 {
-    let planned = match plan_part(alloc, third, times.from, times.to) {
-        Ok(planned) => planned,
-        Err(stop) => return Err(Stop::from(stop)),
-    };
     let PlannedPart {
         plan,
         origins,
         samples,
-    } = planned;
-    match write_between(alloc, times, origins, first, second, plan, output) {
-        Ok(()) => Ok(Done::Cut(samples)),
-        Err(stop) => Err(stop),
+    } = plan_part(alloc, third, times.from, times.to)?;
+    let planned = check_cut(alloc, times, origins, first, second, plan)?;
+    Ok((planned, Done::Cut(samples)))
+}
+
+/// Plans the new file of `task` over the file `first`, and checks that it is what the task promises. `second` is the
+/// same file, since the old and the new file are compared. `third` is the same file, too: it is read to plan the new
+/// file. No clause speaks of it, since it does not matter how a plan was made. Returns the result that the task will
+/// have. The pieces of the new file are `plan.pieces()`, and `write_planned` of `mp4_remux` writes it.
+pub fn plan_task<S: Source, T: Source, P: Source>(
+    alloc: Global,
+    task: Task,
+    first: S,
+    second: T,
+    third: P,
+) -> Result<(PlannedFile<S>, Done), Stop>
+    ensures source { IfOk result (λ r. IfSome (S.all first)
+        (λ B. spelled_by (S.all r.0.source) r.0.plan.value ≡ Some (spelled B r.0.plan.value))) }
+    ensures within { IfOk result (λ r. IfSome (S.all first) (λ B. AreWithin (length B) r.0.plan.value)) }
+    ensures file { IfOk result (λ r. IfSome (S.all first)
+        (λ B. T.all second ≡ Some B → MakesFile task B r.1 (spelled B r.0.plan.value))) }
+{
+    match task {
+        Task::FastStart => plan_start(alloc, first, second),
+        Task::Edit(changes) => plan_edit(alloc, changes, first, second, third),
+        Task::Fragment(options) => plan_fragmented(alloc, options, first, second, third),
+        Task::Defragment => plan_joined(alloc, first, second, third),
+        Task::Cut(times) => plan_cut(alloc, times, first, second, third),
     }
 }
 
-/// Carries out `task` with the file `first`. `second` is the same file, since the old and the new file are compared.
-/// `third` is the same file, too: it is read to plan the new file. No clause speaks of it, since it does not matter how
-/// a plan was made.
+/// Writes the new file that `planned` is, and returns `done`.
+fn write_done<S: Source, W: Write>(
+    alloc: Global,
+    planned: PlannedFile<S>,
+    done: Done,
+    output: &mut Output<W>,
+) -> Result<Done, Stop>
+    ensures { IfSome (S.all planned.source) (λ B. WroteDone (spelled B planned.plan.value) done
+        (W.contents output.old.inner) (W.contents output.new.inner) result) }
+{
+    match write_planned(alloc, planned, output) {
+        Ok(()) => Ok(done),
+        Err(failure) => Err(Stop::Failed(failure)),
+    }
+}
+
+/// Carries out `task` with the file `first`: plans the new file as `plan_task` does, and writes it. After a refusal
+/// nothing is written, and after a failure nothing or a beginning of the new file.
 pub fn carry_out<S: Source, T: Source, P: Source, W: Write>(
     alloc: Global,
     task: Task,
@@ -233,11 +258,8 @@ pub fn carry_out<S: Source, T: Source, P: Source, W: Write>(
     ensures { IfSome (S.all first) (λ B. T.all second ≡ Some B
         → DoesTask task B (W.contents output.old.inner) (W.contents output.new.inner) result) }
 {
-    match task {
-        Task::FastStart => fast_start(alloc, first, second, output),
-        Task::Edit(changes) => edit(alloc, changes, first, second, third, output),
-        Task::Fragment(options) => fragment(alloc, options, first, second, third, output),
-        Task::Defragment => defragment(alloc, first, second, third, output),
-        Task::Cut(times) => cut(alloc, times, first, second, third, output),
+    match plan_task(alloc, task, first, second, third) {
+        Ok((planned, done)) => write_done(alloc, planned, done, output),
+        Err(stop) => Err(stop),
     }
 }

@@ -12,9 +12,12 @@ use crate::progress::Progress;
 use crate::rewriting::{Names, Opened, after_line, misuse_of_input, open_source, tell, tell_stop};
 use mp4_command::escaped;
 use mp4_io::{Failure, Output, Steady};
-use mp4_remux::forms::{FragmentOptions, FragmentPart, Fragmented, plan_fragments};
+use mp4_remux::forms::{
+    Form, FragmentOptions, FragmentPart, Fragmented, check_in_form, plan_fragments,
+};
 use mp4_remux::pieces::Plan;
-use mp4_remux_files::{Stop, write_fragments};
+use mp4_remux::write_planned;
+use mp4_remux_files::Stop;
 use std::alloc::{AllocError, Global};
 use std::fs::{File, OpenOptions, Permissions};
 use std::io::{ErrorKind, Write};
@@ -205,6 +208,25 @@ fn write_playlist(
     fill(&mut file, text.as_str().as_bytes())
 }
 
+/// Writes the new file that `plan` spells out over the file `opened`, if fragments list all its samples, and every
+/// track keeps its samples.
+fn write_fragments<W: Write>(
+    rt: &HostRuntime,
+    plan: Plan,
+    opened: &mut Opened,
+    output: &mut Output<W>,
+) -> Result<(), Stop> {
+    let planned = check_in_form(
+        rt.alloc(),
+        Form::Fragments,
+        &mut opened.first,
+        &mut opened.second,
+        plan,
+    )?;
+    write_planned(rt.alloc(), planned, output)?;
+    Ok(())
+}
+
 /// Writes the segments to `folder`, which have these lengths. Returns the last error of writing with the reason for
 /// stopping.
 fn write_media(
@@ -224,13 +246,7 @@ fn write_media(
         file: None,
     };
     let mut output = Output::new(Steady::new(Progress::new(rt, segments, opened.length)));
-    let run = write_fragments(
-        rt.alloc(),
-        &mut opened.first,
-        &mut opened.second,
-        plan,
-        &mut output,
-    );
+    let run = write_fragments(rt, plan, opened, &mut output);
     output.inner.inner.clear();
     match run {
         Ok(()) => Ok(()),

@@ -137,6 +137,16 @@ impl<S: Source> PieceSource<S> {
         }
         Ok(Some(PieceSource { old, plan }))
     }
+
+    /// Returns the old file and the plan.
+    pub fn into_parts(self) -> (S, Rc<Plan>)
+        ensures old { S.all result.0 ≡ self.old }
+        ensures plan { result.1.value ≡ self.pieces }
+        ensures within { IfSome self.old (λ B. AreWithin (length B) self.pieces) }
+    {
+        let PieceSource { old, plan } = self;
+        (old, plan)
+    }
 }
 
 impl<S: Source> Source for PieceSource<S> {
