@@ -21,6 +21,7 @@ pub mod Splices
 pub mod Spots
 pub mod Edits
 pub mod Shortcuts
+pub mod Sized
 pub mod Tags
 pub mod Forms
 pub mod Origins

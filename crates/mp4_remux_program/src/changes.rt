@@ -6,7 +6,7 @@ use crate::outcome::Outcome;
 use mp4_command::escaped;
 use mp4_frame::{FourCC, codes};
 use mp4_io::Failure;
-use mp4_remux::edits::{Edit, Shortcut, are_boxes, cover_data, text_data};
+use mp4_remux::edits::{Edit, Shortcut, count_sized, cover_data, text_data};
 use mp4_walk::Source;
 use std::alloc::AllocError;
 use std::{fs, io};
@@ -87,7 +87,7 @@ fn read_file(rt: &HostRuntime, name: &str) -> Result<Vec<u8>, NoChanges> {
 /// Returns the bytes of the file `name`, if they are boxes, and one box only if `is_one`.
 fn read_boxes(rt: &HostRuntime, name: &str, is_one: bool) -> Result<Vec<u8>, NoChanges> {
     let bytes = read_file(rt, name)?;
-    let count = match are_boxes(rt.alloc(), &bytes) {
+    let count = match count_sized(rt.alloc(), &bytes) {
         Ok(count) => count,
         Err(error) => return Err(tell_error(rt, name, &error)),
     };

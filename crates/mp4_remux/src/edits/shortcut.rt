@@ -13,9 +13,8 @@ use crate::edits::tags::{Tag, remove_tags, set_tags};
 use crate::edits::tracks::{Patched, add, add_patched, drop_track, enable, rotate, set_language};
 use crate::refusal::{Stop, refused};
 use mp4_frame::{FourCC, codes, u32_at};
-use mp4_walk::{BoxWalk, Source};
+use mp4_walk::Source;
 use std::alloc::{AllocError, Global};
-use std::io;
 
 /// A change of a file.
 #[derive(Debug, Drop)]
@@ -249,26 +248,4 @@ pub fn edits_of<S: Source>(
     let edits = joined(asked, more)?;
     check_hidden(&edits, &ids)?;
     Ok(edits)
-}
-
-/// Returns whether the box at position `at` of `bytes` has a size (ISO/IEC 14496-12, 4.2).
-fn has_size(bytes: &[u8], at: u64) -> bool {
-    let length = bytes.len() as u64;
-    at <= length && length - at >= 4 && u32_at(bytes, at as usize) != 0
-}
-
-/// Returns the number of whole boxes that `bytes` are, one after the other, each with a size. Returns `None` if they
-/// are something else.
-pub fn are_boxes(alloc: Global, bytes: &[u8]) -> io::Result<Option<u64>> {
-    let mut walk = BoxWalk::new(alloc, bytes)?;
-    let mut count: u64 = 0;
-    while let Some(found) = walk.next()? {
-        if found.depth == 0 {
-            if !found.is_whole() || !has_size(bytes, found.position) {
-                return Ok(None);
-            }
-            count = count.saturating_add(1);
-        }
-    }
-    Ok(Some(count))
 }
