@@ -113,7 +113,7 @@ class Described(unittest.TestCase):
             schemas = json.load(file)["$defs"]
         classes = importlib.import_module("mp4_box_codec._fields").CLASSES
         structs = {code for code in schemas if classes[code]._call}
-        self.assertEqual(structs, {"avcC", "esds", "hdlr", "vpcC"})
+        self.assertEqual(structs, {"avcC", "esds", "hdlr", "tx3g", "vpcC"})
         for code, schema in schemas.items():
             if code in structs:
                 continue

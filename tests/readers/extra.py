@@ -206,6 +206,15 @@ class Content:
         self.written += entry.written
         return entry.fields
 
+    def group(self, name, read):
+        """Reads fields with the function `read`, which are members of one field. If `raw` is set, they are fields like
+        any other."""
+        found = self.entry(read)
+        if self.raw:
+            self.fields.update(found)
+        else:
+            self.put(name, found)
+
     def each_to_end(self, name, read):
         """Reads entries up to the end of the box, where the last one has to end. The function `read` reads the fields
         of each."""
@@ -1183,6 +1192,30 @@ def vpcc(c):
         c.put("codecInitializationData", c.as_bytes(found))
 
 
+def colour_parts(name):
+    """Returns a function that reads the parts of a colour. If `raw` is set, their names begin with `name`."""
+    return lambda c: c.numbers(", ".join(f"1 {part} [{name}_{part}]" for part in ("red", "green", "blue", "alpha")))
+
+
+def text_style(c):
+    c.numbers("2 startChar [start_char], 2 endChar [end_char], 2 font-ID [font_id],"
+              "1 face-style-flags [face_style_flags], 1 font-size [font_size]")
+    c.group("text-color-rgba", colour_parts("default_style_text_color_rgba"))
+
+
+def tx3g(c):
+    entry_front(c)
+    c.numbers("4 displayFlags [display_flags], i1 horizontal-justification [horizontal_justification],"
+              "i1 vertical-justification [vertical_justification]")
+    c.group("background-color-rgba", colour_parts("background_color_rgba"))
+    c.group("default-text-box", lambda box: box.numbers("i2 top, i2 left, i2 bottom, i2 right"))
+    c.group("default-style", text_style)
+    if c.raw:
+        c.bytes("boxes")
+    else:
+        c.rest()
+
+
 def vvcc(c):
     c.full(1)
     c.bits("5 -reserved=31, 2 LengthSizeMinusOne, 1 ptl_present_flag")
@@ -1206,7 +1239,7 @@ MORE = {
     "esds": esds, "hvcC": hvcc, "keys": keys, "kind": kind, "mdcv": mdcv,
     "mfro": mfro, "prft": prft, "pssh": pssh, "saio": saio, "saiz": saiz, "sbgp": sbgp, "schm": schm, "sdtp": sdtp,
     "senc": senc, "sgpd": sgpd, "sidx": sidx, "styp": styp, "stz2": stz2, "subs": subs, "tenc": tenc, "tfra": tfra,
-    "stpp": stpp, "wvtt": wvtt, "ftab": ftab,
+    "stpp": stpp, "wvtt": wvtt, "ftab": ftab, "tx3g": tx3g,
     "btrt": lambda c: c.numbers("4 bufferSizeDB, 4 maxBitrate, 4 avgBitrate"),
     "clap": lambda c: c.numbers(
         "4 cleanApertureWidthN, 4 cleanApertureWidthD, 4 cleanApertureHeightN, 4 cleanApertureHeightD, i4 horizOffN,"

@@ -30,6 +30,7 @@ use crate::sthd::{Sthd, SthdBox};
 use crate::stpp::{Stpp, StppBox};
 use crate::tcmi::{Tcmi, TcmiBox};
 use crate::text::{Text, TextBox};
+use crate::tx3g::{Tx3g, Tx3gBox};
 use crate::wvtt::{Wvtt, WvttBox};
 use mp4_compose::CodedEnum;
 use mp4_frame::{
@@ -66,6 +67,7 @@ macro_rules! of_boxes {
                 Stpp StppBox codes::STPP,
                 Tcmi TcmiBox codes::TCMI,
                 Text TextBox codes::TEXT,
+                Tx3g Tx3gBox codes::TX3G,
                 Wvtt WvttBox codes::WVTT
             ]
             $($rest)*
@@ -103,6 +105,7 @@ pub enum SoundBox {
     StppBox(StppBox),
     TcmiBox(TcmiBox),
     TextBox(TextBox),
+    Tx3gBox(Tx3gBox),
     WvttBox(WvttBox),
 }
 
@@ -127,6 +130,7 @@ pub enum SoundType {
     StppBox,
     TcmiBox,
     TextBox,
+    Tx3gBox,
     WvttBox,
 }
 
@@ -177,6 +181,7 @@ impl Catalogued for SoundBox {
       | types.StppBox ↦ valid_as ⟦<Stpp as Described>⟧.declaration refl
       | types.TcmiBox ↦ valid_as ⟦<Tcmi as Described>⟧.declaration refl
       | types.TextBox ↦ valid_as ⟦<Text as Described>⟧.declaration refl
+      | types.Tx3gBox ↦ valid_as ⟦<Tx3g as Described>⟧.declaration refl
       | types.WvttBox ↦ valid_as ⟦<Wvtt as Described>⟧.declaration refl
     ] };
 }
@@ -376,6 +381,14 @@ impl Holds<TextBox> for SoundBox {
 
     fn wrap(value: TextBox) -> SoundBox {
         SoundBox::TextBox(value)
+    }
+}
+
+impl Holds<Tx3gBox> for SoundBox {
+    ghost wrapped = { boxes.Tx3gBox };
+
+    fn wrap(value: Tx3gBox) -> SoundBox {
+        SoundBox::Tx3gBox(value)
     }
 }
 

@@ -113,6 +113,12 @@ returns-in-TextBox-clause-answer c =
     c.args.reader.now.bytes.now (c.args.reader.now.position - 8) c.args.size c.in-TextBox.is
     c.read_declared-in-TextBox.ensures.answer
 
+pub returns-in-Tx3gBox-clause-answer : goal.returns-in-Tx3gBox-clause-answer
+returns-in-Tx3gBox-clause-answer c =
+    same_reading sound_types ghosts.declared c.args.of types.Tx3gBox c.read_declared-in-Tx3gBox.result
+    c.args.reader.now.bytes.now (c.args.reader.now.position - 8) c.args.size c.in-Tx3gBox.is
+    c.read_declared-in-Tx3gBox.ensures.answer
+
 pub returns-in-WvttBox-clause-answer : goal.returns-in-WvttBox-clause-answer
 returns-in-WvttBox-clause-answer c =
     same_reading sound_types ghosts.declared c.args.of types.WvttBox c.read_declared-in-WvttBox.result
