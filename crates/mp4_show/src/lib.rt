@@ -25,6 +25,7 @@ pub use box_fields::{BoxFields, put_fields};
 pub use code::push_code;
 pub use escape::{is_escaped, push_escaped};
 pub use escaped_json::json_text;
+pub use fields::{DATA_TYPES, integer, integer_width};
 pub use fronts::{
     put_entry, put_full_head, put_list_head, put_reference, put_terminator, put_usertype,
     put_visual,
