@@ -542,12 +542,16 @@ def set_code(_, names):
     return [{"name": names, "kind": "code", "optional": True}]
 
 
+def handler_name(_, names):
+    return run(names)
+
+
 def item_id(_, names):
     return [{**field, "bits_by_version": [16, 32]} for field in number(names, 32)]
 
 
 OWN = {
-    "ItemId": item_id, "SetCode": set_code,
+    "ItemId": item_id, "NameShown": handler_name, "SetCode": set_code,
     "ProtectionSystem": protection_system,
     "ChannelMapping": channel_mapping, "BlockData": flac_block_data, "Country": locale, "Language": locale,
     "TypedValue": typed_value, "SampleSizes": sample_sizes,

@@ -535,15 +535,16 @@ def gmin(c):
 
 
 def set_code(c, name):
-    """Reads a code, which is shown unless it is 0."""
+    """Reads a code, which is shown unless it is 0. Returns its number."""
     piece = c.take(4)
     if c.raw or any(piece):
         c.put(name, c.as_code(piece))
+    return int.from_bytes(piece, "big")
 
 
 def hdlr(c):
     c.numbers("1 version, 3 flags")
-    set_code(c, "component_type")
+    component = set_code(c, "component_type")
     c.code("handler_type")
     set_code(c, "component_manufacturer")
     c.bits("32 -component_flags=0, 32 -component_flags_mask=0")
@@ -553,17 +554,21 @@ def hdlr(c):
     if c.raw:
         c.put("name", c.as_bytes(name))
     else:
-        put_handler_name(c, name)
+        put_handler_name(c, component, name)
 
 
-def put_handler_name(c, name):
-    """Puts the name of a handler. In QuickTime a byte before it is its number of bytes, and no byte of 0 has to end
-    it."""
+def put_handler_name(c, component, name):
+    """Puts the name of a handler. In QuickTime, which has types of components, a byte before the name is its number of
+    bytes, and no byte of 0 has to end it. The bytes are beside the name if they have another form."""
     rest = name[1:]
-    if rest and name[0] in (len(rest), len(rest.removesuffix(b"\0"))):
-        c.put_string("name", rest, b"\0" if rest.endswith(b"\0") else b"")
-    else:
-        c.put_string("name", name, b"\0")
+    is_counted = bool(rest) and name[0] in (len(rest), len(rest.removesuffix(b"\0")))
+    shown = rest if is_counted else name
+    is_ended = shown.endswith(b"\0")
+    text = shown.removesuffix(b"\0")
+    c.put("name", c.as_string(text))
+    is_usual = is_counted and not is_ended if component else is_ended and not is_counted
+    if not is_usual or text.decode("utf-8", "replace").encode() != text:
+        c.put("name_hex", c.as_bytes(name))
 
 
 def hmhd(c):
