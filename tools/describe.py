@@ -682,6 +682,31 @@ as they spell them. [boxes.json](boxes.json) has them for other programs, with t
 the boxes of `mp4_extra`. The codec's own boxes are shown under the names of [LAYOUT.md](LAYOUT.md).
 
 A field is present in each box of its type unless the last column says when it is.
+
+## Boxes from JSON
+
+`ExtraBox::from_json` reads a box back from its JSON, and `read_codec` of `mp4_show` one of the codec's 36 boxes
+([how](../crates/mp4_shown/CALLING.md#taking)). The JSON is an object with the fields of the box:
+
+- The names may have any order. A field that is missing, a name that the box doesn't have, and a name that comes
+  twice are refused.
+- A field without meaning for this version, these flags or this type must be absent.
+- These members are *derived*. They may be left out, and are refused if they contradict their field:
+    - the count of a list;
+    - the meaning of a number, whose name ends in `_name`;
+    - `first_sample` in `stsc`;
+    - `AudioSpecificConfig` in `esds`, which follows from the first of `decoder_descriptors`;
+    - a text or a number beside its bytes, whose name ends in `_hex`.
+- Reserved bits may be left out if they have the standard's value. Bytes that are present only if there are some, and
+  empty lists of bytes, may be left out.
+- A byte that counts the bytes after it, such as `default_constant_IV_size`, may be left out. Another number than
+  theirs is kept, since files have such numbers.
+- A whole number is written without a point or an exponent. A fixed-point number may have both, up to 37 digits. It is
+  rounded to the nearest number that the field can have.
+- Bytes are texts of hexadecimal digits, in either case. Codes are texts of four characters, each of the number of its
+  byte.
+
+A refusal has the path of the member and a reason: `references[3].SAP_type does not fit the field`.
 """
 WIDTH = 120
 

@@ -73,7 +73,7 @@ class Declared:
         return re.findall(r"pub (\w+):", found[1]) if found else []
 
     def flat_fields_of(self, struct):
-        """Returns the fields of the struct `struct`, with those of a struct inside in its place."""
+        """Returns the fields of the struct `struct`. A field that is a struct is replaced by its fields."""
         found = re.search(rf"pub struct {struct} \{{(.*?)\}}", self.source)
         for name, kind in re.findall(r"pub (\w+): (\w+)", found[1]) if found else []:
             yield from self.fields_of(kind) or [name]

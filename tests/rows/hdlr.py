@@ -129,7 +129,7 @@ def fields_of_the_standard():
 
 
 def fields_of_quicktime():
-    """QuickTime File Format, "Handler reference atoms"."""
+    """QuickTime File Format, "Handler reference atoms". A name that a byte of 0 ends has another form there."""
     yield fields(
         full(b"hdlr", b"mhlrvideappl", u32(3, 4), b"\5Video", flags=2), version=0, flags=2, component_type="mhlr",
         handler_type="vide", component_manufacturer="appl", component_flags=3, component_flags_mask=4, name="Video",
@@ -139,6 +139,8 @@ def fields_of_quicktime():
         found = {"version": 0, "flags": 0, "component_type": "", "handler_type": "vide", "component_manufacturer": "",
                  "component_flags": "", "component_flags_mask": "", "name": "V", name: value}
         given = changed(full(b"hdlr", u32(0), b"vide", bytes(12), b"V\0"), {at + 3: 1})
+        if name == "component_type":
+            found["name_hex"] = "5600"
         yield fields(given, **{key: it for key, it in found.items() if it != ""})
 
 

@@ -7,6 +7,8 @@ ghost use Rattle.mp4_declared.specs.OwnBox.{layout_of};
 ghost use Rattle.mp4_declared.specs.DeclaredEntry.{exact_layout_of};
 ghost use Rattle.mp4_declared.specs.Layout.{packed, fields_of};
 
+mod taken;
+
 use mp4_declared::{
     Bits, Declared, DeclaredBox, DeclaredEntry, EntryLayout, EntryVisitor, I8, I16, Last, Reserved,
     Rest, Shape, ShapeVisitor, U8, U16, U32, box_of, entry_of, numbers_of, parts_of,

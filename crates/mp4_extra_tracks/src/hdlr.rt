@@ -13,6 +13,8 @@ ghost use Rattle.std.specs.Prelude.{◌≡◌};
 ghost use Rattle.std.specs.Str.{is_utf8};
 ghost use Rattle.mp4_declared.specs.OwnBox.{layout_of};
 
+mod taken;
+
 use mp4_declared::{
     Code, Context, Declared, DeclaredBox, Last, PutShape, Rest, Shape, ShapeVisitor, U8, U24, U32,
     box_of, parts_of,
