@@ -1,13 +1,13 @@
 //! The box types of this crate as one enum.
 
-ghost use Rattle.std.specs.Prelude.{◌≡◌, ◌+◌, ◌-◌, ◌≤◌, IsTrue, OnOk, OnErr, max};
+ghost use Rattle.std.specs.Prelude.{ℕ, Option, ◌≡◌, ◌+◌, ◌-◌, ◌≤◌, IsTrue, OnOk, OnErr, max};
 ghost use Rattle.mp4_frame.specs.Members.{is_known, reading_known};
 ghost use Rattle.mp4_frame.specs.Reading.{Answers, map_reading};
 ghost use Rattle.mp4_shown.specs.Catalogue.{Declarations, inside, kinds, shown, whole};
 ghost use Rattle.mp4_shown.specs.CatalogueLaws.{by_code, members, named};
 ghost use Rattle.mp4_extra.specs.ExtraBox.{declarations, extra_document, extra_types, known_any, reading_any};
-ghost use Rattle.json.specs.Json.{document};
-ghost use Rattle.mp4_shown.specs.Taking.{TakesAs};
+ghost use Rattle.json.specs.Json.{Json, document};
+ghost use Rattle.mp4_shown.specs.Taking.{Taking, TakesAs};
 ghost use Rattle.mp4_extra.specs.ExtraBoxLaws.{extra_laws};
 ghost use Rattle.mp4_extra.specs.declared.extra_box.ExtraBox.TheVariants as boxes;
 
@@ -66,6 +66,16 @@ impl ExtraDeclarations for ExtraBox {
     ghost declared = { declarations ⟦<PictureBox as Catalogued>⟧.declared
         ⟦<SoundBox as Catalogued>⟧.declared ⟦<SampleBox as Catalogued>⟧.declared
         ⟦<TrackBox as Catalogued>⟧.declared };
+}
+
+/// For the prover: the box with a code that a JSON value is, if a type has the code.
+pub trait TakenByCode {
+    ghost taken: { ℕ → Option Json → Taking (Option Self) };
+}
+
+impl TakenByCode for ExtraBox {
+    ghost taken = { extra_document ⟦<PictureBox as Catalogued>⟧.declared ⟦<SoundBox as Catalogued>⟧.declared
+        ⟦<SampleBox as Catalogued>⟧.declared ⟦<TrackBox as Catalogued>⟧.declared };
 }
 
 impl ExtraBox {

@@ -35,5 +35,5 @@ pub use look::Look;
 pub use mp4_shown::{Result, Value};
 pub use number_text::push_number;
 pub use sound_front::put_sound;
-pub use taken::read_codec;
+pub use taken::{TakenByType, read_codec};
 pub use text_sink::{TextSink, columns, push_colored};

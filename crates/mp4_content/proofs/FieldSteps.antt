@@ -1,20 +1,18 @@
--- The pieces of a text that names a field, one at a time, and the values that they stand for.
+-- The pieces of a text that names a field, one at a time, and the steps that they stand for.
 use Rattle.std.proofs.Common.{◌≡◌, ◌≢◌, ◌∙◌, ℕ, ◌+◌, ◌-◌, ◌<◌, ◌≤◌, ◌==◌, ◌^◌, ◌&&◌, true, List, [], ◌∷◌, ◌++◌}
-use Rattle.std.proofs.Common.{length, take, Option, Result, None, Some, Ok, Err, Bor, get_or, refl, sym, ap, arith}
-use Rattle.std.proofs.Common.{length-append}
+use Rattle.std.proofs.Common.{length, take, Option, Result, None, Some, Ok, Err, Bor, get_or, refl, sym, ap}
+use Rattle.std.proofs.Common.{subst, arith, append_assoc, append-nil, length-append}
 use Rattle.std.proofs.lemmas.Bool.{and_from, and_parts, cond-false, cond-true, eq-eqb, eqb-true, false_from_ne_true}
 use Rattle.std.proofs.lemmas.Bool.{lt-ltb, ltb-true}
 use Rattle.std.proofs.lemmas.Iterator.{YieldsList}
 use Rattle.std.proofs.lemmas.List.{take_all, take_more, take-append-le}
 use Rattle.std.specs.Char.{digit_value, is_digit}
 use Rattle.std.specs.List.{list_all}
-use Rattle.std.specs.Prelude.{nat_lt, option_and_then}
+use Rattle.std.specs.Prelude.{IfSome, nat_lt, option_and_then, option_map, unwrap_or}
 use Rattle.std.specs.Result.{result_ok}
 use Rattle.std.specs.Str.Parse.{AllDigits, ParsesUnsigned, digits_value, without_leading_plus}
-use Rattle.json.specs.Find.{get}
-use Rattle.json.specs.Json.{Json}
-use Rattle.mp4_inspect.specs.Field.{are_digits, entries_at, entry_at, entry_number, member_at, member_in, members_at}
-use Rattle.mp4_inspect.specs.Field.{number_in, value_in}
+use Rattle.mp4_content.specs.Field.{Place, Named, Numbered, are_digits, entries_in, entry_number, member_in}
+use Rattle.mp4_content.specs.Field.{after_step, member_places, number_in, places_in}
 
 -- ---- a number before a bracket
 
@@ -107,44 +105,81 @@ module _ {S : Type 0} (steps : S → Option (Bor (List ℕ)) → S → Type 0) w
   none_left s t [] yields step = refl
   none_left s t (piece ∷ rest) yields step = absurd (yields.runs.0 t step)
 
--- ---- values in turn
+-- ---- steps in turn
 
-pub no_entry : (j : Json) (text : List ℕ) (pieces rest : List (List ℕ)) → pieces ≡ text ∷ rest
-    → None ≡ entry_at j text → None ≡ entries_at j pieces
-no_entry j text pieces rest is none =
-    ap (option_and_then (λ k. entries_at k rest)) none ∙ sym (ap (entries_at j) is)
+-- what is found of the rest, after these steps
+abbrev pub after : List Place → Option (List Place) → Option (List Place)
+after done found = option_map (λ ps. done ++ ps) found
 
-pub next_entry : (j k : Json) (text : List ℕ) (pieces rest : List (List ℕ)) → pieces ≡ text ∷ rest
-    → Some k ≡ entry_at j text → entries_at k rest ≡ entries_at j pieces
-next_entry j k text pieces rest is some =
-    ap (option_and_then (λ i. entries_at i rest)) some ∙ sym (ap (entries_at j) is)
+one_more : (done : List Place) (place : Place) (found : Option (List Place))
+    → after (done ++ place ∷ []) found ≡ after done (option_map (λ ps. place ∷ ps) found)
+one_more done place None = refl
+one_more done place (Some ps) = ap (λ (x : List Place). Some x) (append_assoc done (place ∷ []) ps)
 
-pub no_first : (j : Json) (name : List ℕ) (pieces rest : List (List ℕ)) → pieces ≡ name ∷ rest
-    → None ≡ get name j → None ≡ member_in j pieces
-no_first j name pieces rest is none =
-    ap (option_and_then (λ k. entries_at k rest)) none ∙ sym (ap (member_in j) is)
+pub no_name : (done : List Place) (pieces : List (List ℕ)) → pieces ≡ [] → after done (member_in pieces) ≡ None
+no_name done pieces is = ap (λ (p : List (List ℕ)). after done (member_in p)) is
 
-pub first_entry : (j k : Json) (name : List ℕ) (pieces rest : List (List ℕ)) → pieces ≡ name ∷ rest
-    → Some k ≡ get name j → entries_at k rest ≡ member_in j pieces
-first_entry j k name pieces rest is some =
-    ap (option_and_then (λ i. entries_at i rest)) some ∙ sym (ap (member_in j) is)
+pub first_name : (done : List Place) (name : List ℕ) (pieces rest : List (List ℕ)) → pieces ≡ name ∷ rest
+    → after (done ++ Named name ∷ []) (entries_in rest) ≡ after done (member_in pieces)
+first_name done name pieces rest is =
+    one_more done (Named name) (entries_in rest) ∙ sym (ap (λ (p : List (List ℕ)). after done (member_in p)) is)
 
-pub no_member : (j : Json) (text : List ℕ) (pieces rest : List (List ℕ)) → pieces ≡ text ∷ rest
-    → None ≡ member_at j text → None ≡ members_at j pieces
-no_member j text pieces rest is none =
-    ap (option_and_then (λ k. members_at k rest)) none ∙ sym (ap (members_at j) is)
+pub no_entry : (done : List Place) (text : List ℕ) (pieces rest : List (List ℕ)) → pieces ≡ text ∷ rest
+    → None ≡ entry_number text → after done (entries_in pieces) ≡ None
+no_entry done text pieces rest is none =
+    ap (λ (p : List (List ℕ)). after done (entries_in p)) is
+    ∙ ap (λ (n : Option ℕ). after done (after_step (option_map Numbered n) (entries_in rest))) (sym none)
 
-pub next_member : (j k : Json) (text : List ℕ) (pieces rest : List (List ℕ)) → pieces ≡ text ∷ rest
-    → Some k ≡ member_at j text → members_at k rest ≡ members_at j pieces
-next_member j k text pieces rest is some =
-    ap (option_and_then (λ i. members_at i rest)) some ∙ sym (ap (members_at j) is)
+pub next_entry : (done : List Place) (n : ℕ) (text : List ℕ) (pieces rest : List (List ℕ)) → pieces ≡ text ∷ rest
+    → Some n ≡ entry_number text
+    → after (done ++ Numbered n ∷ []) (entries_in rest) ≡ after done (entries_in pieces)
+next_entry done n text pieces rest is some =
+    one_more done (Numbered n) (entries_in rest)
+    ∙ ap (λ (m : Option ℕ). after done (after_step (option_map Numbered m) (entries_in rest))) some
+    ∙ sym (ap (λ (p : List (List ℕ)). after done (entries_in p)) is)
 
-pub no_value : (j : Json) (text : List ℕ) (pieces rest : List (List ℕ)) → pieces ≡ text ∷ rest
-    → None ≡ member_at j text → None ≡ value_in j pieces
-no_value j text pieces rest is none =
-    ap (option_and_then (λ k. members_at k rest)) none ∙ sym (ap (value_in j) is)
+pub all_entries : (done : List Place) (pieces : List (List ℕ)) → pieces ≡ []
+    → after done (entries_in pieces) ≡ Some done
+all_entries done pieces is =
+    ap (λ (p : List (List ℕ)). after done (entries_in p)) is ∙ ap (λ (x : List Place). Some x) (append-nil done)
 
-pub first_member : (j k : Json) (text : List ℕ) (pieces rest : List (List ℕ)) → pieces ≡ text ∷ rest
-    → Some k ≡ member_at j text → members_at k rest ≡ value_in j pieces
-first_member j k text pieces rest is some =
-    ap (option_and_then (λ i. members_at i rest)) some ∙ sym (ap (value_in j) is)
+-- ---- members in turn
+
+no_some : {A : Type 0} (v : A) → None ≡ Some v → ⊥
+no_some {A} v is = subst (λ (o : Option A). IfSome o (λ _. ⊥)) is tt
+
+seam_of : (done ps : List Place) (found : Option (List Place))
+    → after done (option_map (λ qs. ps ++ qs) found) ≡ after (done ++ ps) found
+seam_of done ps None = refl
+seam_of done ps (Some qs) = ap (λ (x : List Place). Some x) (sym (append_assoc done ps qs))
+
+-- the steps of a member, and those of the members after it
+member_then : (done next : List Place) (found others : Option (List Place)) → after done found ≡ Some next
+    → after next others ≡ after done (option_and_then (λ ps. option_map (λ qs. ps ++ qs) others) found)
+member_then done next None others is = absurd (no_some next is)
+member_then done next (Some ps) others is =
+    ap (λ (x : List Place). after x others) (sym (ap (λ (o : Option (List Place)). unwrap_or o []) is))
+    ∙ sym (seam_of done ps others)
+
+no_member_then : (done : List Place) (found others : Option (List Place)) → after done found ≡ None
+    → after done (option_and_then (λ ps. option_map (λ qs. ps ++ qs) others) found) ≡ None
+no_member_then done None others is = refl
+no_member_then done (Some ps) others is = absurd (no_some (done ++ ps) (sym is))
+
+pub next_member : (done next : List Place) (text : List ℕ) (pieces rest : List (List ℕ)) → pieces ≡ text ∷ rest
+    → after done (member_places text) ≡ Some next
+    → after next (places_in rest) ≡ after done (places_in pieces)
+next_member done next text pieces rest is some =
+    member_then done next (member_places text) (places_in rest) some
+    ∙ sym (ap (λ (p : List (List ℕ)). after done (places_in p)) is)
+
+pub no_member : (done : List Place) (text : List ℕ) (pieces rest : List (List ℕ)) → pieces ≡ text ∷ rest
+    → after done (member_places text) ≡ None → after done (places_in pieces) ≡ None
+no_member done text pieces rest is none =
+    ap (λ (p : List (List ℕ)). after done (places_in p)) is
+    ∙ no_member_then done (member_places text) (places_in rest) none
+
+pub all_members : (done : List Place) (pieces : List (List ℕ)) → pieces ≡ []
+    → after done (places_in pieces) ≡ Some done
+all_members done pieces is =
+    ap (λ (p : List (List ℕ)). after done (places_in p)) is ∙ ap (λ (x : List Place). Some x) (append-nil done)
