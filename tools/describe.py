@@ -685,7 +685,8 @@ A field is present in each box of its type unless the last column says when it i
 
 ## Boxes from JSON
 
-`ExtraBox::from_json` reads a box back from its JSON, and `read_codec` of `mp4_show` one of the codec's 36 boxes
+`mp4_box_from_json` of the library writes a box from its JSON, and `mp4remux edit --set` changes one field in it. In
+Rattle `ExtraBox::from_json` reads a box back from its JSON, and `read_codec` of `mp4_show` one of the codec's 36 boxes
 ([how](../crates/mp4_shown/CALLING.md#taking)). The JSON is an object with the fields of the box:
 
 - The names may have any order. A field that is missing, a name that the box doesn't have, and a name that comes

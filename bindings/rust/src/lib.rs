@@ -3,7 +3,7 @@
 //! - `tree` and `tree_of` return all boxes of a file, `tracks` its tracks, and `samples` the samples of a track.
 //! - `check_file` returns the faults of a file, and `info` what the file and its tracks are.
 //! - `ReadBox` and `WriteBox` read and write single boxes. Structs have the names of the crate `mp4`.
-//! - `fields` returns the fields of a box of any of 103 types as JSON.
+//! - `fields` returns the fields of a box of any of 103 types as JSON, and `box_from_json` the box of such fields.
 //!
 //! Numbers such as (8.3.2) are sections of ISO/IEC 14496-12. The results of the library are proved for all bytes;
 //! nothing is proved about this crate, which passes pointers. A call that gets no memory returns `Error::OutOfMemory`.
@@ -28,6 +28,7 @@ mod entries;
 mod error;
 mod faults;
 mod info;
+mod json;
 mod numbers;
 #[allow(missing_docs)]
 mod raw;
@@ -47,6 +48,7 @@ pub use entries::{DecoderConfigDescriptor, DecoderSpecificDescriptor, ESDescript
 pub use error::{Error, Fault};
 pub use faults::{check_file, FaultCode, FileFault, Severity};
 pub use info::{info, Encryption, FileInfo, FrameRate, Picture, SampleTotals, Sound, TrackInfo};
+pub use json::{box_from_json, check_json, JsonFault};
 pub use numbers::{DataType, FixedPointI8, FixedPointU16, FixedPointU8, Matrix, RgbColor, RgbaColor, TrackType};
 pub use rows::{CttsEntry, ElstEntry, Place, Sample, Span, StscEntry, SttsEntry, TrunEntry};
 pub use texts::{DataBox, DinfBox, DrefBox, EmsgBox, FtypBox, HdlrBox, UrlBox};

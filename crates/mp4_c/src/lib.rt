@@ -3,7 +3,8 @@
 //! `include/mp4_box_codec.h` at the top of the repository declares these functions, and says what the caller ensures.
 //! `docs/C.md` explains a calling program. The functions are of these kinds:
 //!
-//! - `check`, `list`, `find`, `fields` and `normal` take the bytes of a file or of a box of any type.
+//! - `check`, `list`, `find`, `fields` and `normal` take the bytes of a file or of a box of any type, and `from_json`
+//!   writes such a box.
 //! - `samples` and `fragment_samples` list the samples of a track.
 //! - `file_faults` lists what `mp4inspect check` finds in a file, and `file_info` what `mp4inspect info` knows of it.
 //! - `file_walk` visits the boxes of a file that isn't in memory.
@@ -27,6 +28,7 @@ pub mod find;
 pub mod flat;
 pub mod found_box;
 pub mod fragment_samples;
+pub mod from_json;
 pub mod front_box;
 pub mod list;
 pub mod normal;
