@@ -27,7 +27,7 @@ from tests.programs.test_fragment import (Runs, Track, extras_of, fail, groups_o
 from tests.readers.samples import File, boxes, first, inner
 from tests.real_files import making
 
-# The timescale of the movie of the files that are made by hand.
+# The timescale of the movies that these tests make.
 MOVIE_SCALE = 600
 
 
@@ -138,8 +138,8 @@ class Cuts:
         return after
 
     def edits(self, name, data, begin, end, runs, edits, durations):
-        """Cuts the file `data`, and checks the runs, the edits and the durations, all worked by hand. Durations of the
-        movie are in milliseconds."""
+        """Cuts the file `data`, and checks the runs, the edits and the durations, which were worked out by hand.
+        Durations of the movie are in milliseconds."""
         after = self.cut(name, data, begin, end, runs)
         wanted = ([[(ticks(duration), time) for duration, time in those] for those in edits],
                   (ticks(durations[0]), [(ticks(shown), media) for shown, media in durations[1]]))
@@ -162,7 +162,7 @@ class Cuts:
 
 
 def by_hand(cuts, random_):
-    """Cuts files whose parts are worked by hand."""
+    """Cuts files, and compares the parts with those that were worked out by hand."""
     one, two = Track(1, video([4, 4, 4])), Track(2, sound(40), b"soun")
     data = made(random_, [one, two])
     # The frames begin at 0, 100, .., and every fourth is a sync sample. The sounds begin at 0, 40, ..
@@ -195,7 +195,7 @@ def by_hand(cuts, random_):
     fine = Track(2, sound(70, duration=1024), b"soun", 48000)
     cuts.edits("another timescale", made(random_, [one, fine]), "0.5", "0.9", [(4, 9), (18, 43)],
                [[(400, 100)], [(400, 24000 - 18 * 1024)]], (400, [(400, 500), (400, 25 * 1024)]))
-    # A second video begins with a sync sample of its own.
+    # A second video also begins with a sync sample.
     second = Track(2, video([3, 3, 3], duration=90))
     cuts.cut("two videos", made(random_, [one, second]), "0.5", "0.9", [(4, 9), (3, 9)])
 

@@ -187,14 +187,14 @@ def _nanoseconds(given: Seconds, name: str) -> int:
 
 
 def faststart(source: Union[File, Source]) -> NewFile:
-    """Returns the file with its `moov` before its media data, as `mp4remux faststart` writes it. Every offset leads to
+    """Returns the file with its `moov` before its media data: what `mp4remux faststart` writes. Every offset leads to
     the same byte. If no media data are before the `moov`, the new file is a copy."""
     file = _opened(source)
     return NewFile(file, calls.faststart(file.data))
 
 
 def edit(source: Union[File, Source], changes: Sequence[Change]) -> NewFile:
-    """Returns the file with some changes, as `mp4remux edit` writes it. Every sample of every track is kept, except
+    """Returns the file with some changes: what `mp4remux edit` writes. Every sample of every track is kept, except
     those of tracks that are dropped, and offsets lead to the same bytes. Paths and numbers are those of the file before
     all changes."""
     rows = [calls._field(it, "row", f"changes[{at}]")
@@ -205,7 +205,7 @@ def edit(source: Union[File, Source], changes: Sequence[Change]) -> NewFile:
 
 def fragment(source: Union[File, Source], *, seconds: Optional[Seconds] = None, sidx: bool = False,
              mfra: bool = False, styp: bool = False) -> NewFile:
-    """Returns the file with all samples in fragments, as `mp4remux fragment` writes it. Each fragment but the last
+    """Returns the file with all samples in fragments: what `mp4remux fragment` writes. Each fragment but the last
     lasts `seconds` at least. Without that a video is cut at each sync sample, and other media every two seconds. The
     others ask for a `sidx` before the fragments, an `mfra` after them, and a `styp` before each."""
     file, least = _opened(source), 0 if seconds is None else _nanoseconds(seconds, "seconds")
@@ -213,13 +213,13 @@ def fragment(source: Union[File, Source], *, seconds: Optional[Seconds] = None, 
 
 
 def defragment(source: Union[File, Source]) -> NewFile:
-    """Returns the file with all samples in tables, as `mp4remux defragment` writes it."""
+    """Returns the file with all samples in tables: what `mp4remux defragment` writes."""
     file = _opened(source)
     return NewFile(file, calls.defragment(file.data))
 
 
 def cut(source: Union[File, Source], begin: Seconds, end: Seconds) -> NewFile:
-    """Returns the part of the file between two times of the presentation in seconds, as `mp4remux cut` writes it. It
+    """Returns the part of the file between two times of the presentation in seconds: what `mp4remux cut` writes. It
     begins with a sync sample of the video, and an edit list hides what is before `begin`."""
     file = _opened(source)
     return NewFile(file, calls.cut(file.data, _nanoseconds(begin, "begin"), _nanoseconds(end, "end")))

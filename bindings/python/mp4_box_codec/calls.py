@@ -740,7 +740,7 @@ def _planned(function: Callable[..., int], data: Any, *more: Any) -> NewFile:
 
 
 def faststart(data: Any) -> NewFile:
-    """Returns the file with its moov before its media data, as `mp4remux faststart` writes it.
+    """Returns the file with its moov before its media data: what `mp4remux faststart` writes.
 
     >>> file = bytes.fromhex("00000008 6d646174 00000008 6d6f6f76")
     >>> faststart(file).pieces
@@ -764,7 +764,7 @@ def _change(at: int, given: Any, parts: bytearray) -> Any:
 
 
 def edit(data: Any, changes: Any) -> NewFile:
-    """Returns the file with some changes, each a ChangeRow, as `mp4remux edit` writes it.
+    """Returns the file with some changes, each a ChangeRow: what `mp4remux edit` writes.
 
     >>> file = bytes.fromhex("00000008 6d6f6f76 00000008 66726565")
     >>> edit(file, [ChangeRow(CHANGE_REMOVE, "free")]).pieces
@@ -778,7 +778,7 @@ def edit(data: Any, changes: Any) -> NewFile:
 
 def fragment(data: Any, least: int = 0, has_sidx: bool = False, has_mfra: bool = False,
              has_styp: bool = False) -> NewFile:
-    """Returns the file with all samples in fragments, as `mp4remux fragment` writes it. Each fragment but the last has
+    """Returns the file with all samples in fragments: what `mp4remux fragment` writes. Each fragment but the last has
     `least` nanoseconds at least. If that is 0, a video is cut at each sync sample, and other media every two
     seconds."""
     options = _FRAGMENT_OPTIONS(_number(least, _ALL[u64], "least"), bool(has_sidx), bool(has_mfra), bool(has_styp))
@@ -786,12 +786,12 @@ def fragment(data: Any, least: int = 0, has_sidx: bool = False, has_mfra: bool =
 
 
 def defragment(data: Any) -> NewFile:
-    """Returns the file with all samples in tables, as `mp4remux defragment` writes it."""
+    """Returns the file with all samples in tables: what `mp4remux defragment` writes."""
     return _planned(_defragment, data)
 
 
 def cut(data: Any, begin: int, end: int) -> NewFile:
-    """Returns the part of the file between two times in nanoseconds, as `mp4remux cut` writes it."""
+    """Returns the part of the file between two times in nanoseconds: what `mp4remux cut` writes."""
     return _planned(_cut, data, _number(begin, _ALL[u64], "begin"), _number(end, _ALL[u64], "end"))
 
 

@@ -138,7 +138,7 @@ pub(crate) fn answered<A: Default, S: Default>(
     Ok((status, arrays, found))
 }
 
-/// Uses a call twice, as `answered` does. Its last status has to be that of a success.
+/// Uses a call twice, like `answered`. Its last status has to be that of a success.
 pub(crate) fn called<A: Default, S: Default>(
     call: impl Fn(&mut A, &mut S) -> u32,
     room: impl Fn(&S) -> Result<A, Error>,

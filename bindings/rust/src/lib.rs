@@ -4,7 +4,7 @@
 //! - `check_file` returns the faults of a file, and `info` what the file and its tracks are.
 //! - `ReadBox` and `WriteBox` read and write single boxes. Structs have the names of the crate `mp4`.
 //! - `fields` returns the fields of a box of any of 103 types as JSON.
-//! - `faststart`, `edit`, `fragment`, `defragment` and `cut` plan new files, as `mp4remux` writes them.
+//! - `faststart`, `edit`, `fragment`, `defragment` and `cut` plan the new files that `mp4remux` writes.
 //!
 //! Numbers such as (8.3.2) are sections of ISO/IEC 14496-12. The results of the library are proved for all bytes;
 //! nothing is proved about this crate, which passes pointers. A call that gets no memory returns `Error::OutOfMemory`.

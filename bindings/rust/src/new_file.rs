@@ -132,7 +132,7 @@ fn planned<'a>(old: &'a [u8], call: impl Fn(Places, &mut raw::NewFile) -> u32) -
     result_of(status, NewFile { old, new, rows, found })
 }
 
-/// Returns the file with its `moov` before its media data, as `mp4remux faststart` writes it. Every offset leads to the
+/// Returns the file with its `moov` before its media data: what `mp4remux faststart` writes. Every offset leads to the
 /// same byte. If no media data are before the `moov`, the new file is a copy.
 pub fn faststart(file: &[u8]) -> Result<NewFile<'_>, Error> {
     // SAFETY: as in `filled`, for three arrays.
@@ -250,7 +250,7 @@ impl Change<'_> {
     }
 }
 
-/// Returns the file with some changes, as `mp4remux edit` writes it. Every sample of every track is kept, except those
+/// Returns the file with some changes: what `mp4remux edit` writes. Every sample of every track is kept, except those
 /// of tracks that are dropped, and offsets lead to the same bytes. Paths and numbers are those of the file before all
 /// changes. If a change is none, the reason begins with its number in `changes`, such as `change 0: `.
 pub fn edit<'a>(file: &'a [u8], changes: &[Change<'_>]) -> Result<NewFile<'a>, Error> {
@@ -297,7 +297,7 @@ fn nanoseconds(time: Duration) -> u64 {
     u64::try_from(time.as_nanos()).unwrap_or(u64::MAX)
 }
 
-/// Returns the file with all samples in fragments, as `mp4remux fragment` writes it.
+/// Returns the file with all samples in fragments: what `mp4remux fragment` writes.
 pub fn fragment<'a>(file: &'a [u8], options: &FragmentOptions) -> Result<NewFile<'a>, Error> {
     let options = raw::FragmentOptions {
         least: options.least.map_or(0, nanoseconds),
@@ -312,7 +312,7 @@ pub fn fragment<'a>(file: &'a [u8], options: &FragmentOptions) -> Result<NewFile
     })
 }
 
-/// Returns the file with all samples in tables, as `mp4remux defragment` writes it.
+/// Returns the file with all samples in tables: what `mp4remux defragment` writes.
 pub fn defragment(file: &[u8]) -> Result<NewFile<'_>, Error> {
     // SAFETY: as in `filled`, for three arrays.
     planned(file, |(pieces, places, bytes, byte_places, text, text_places), found| unsafe {
@@ -320,7 +320,7 @@ pub fn defragment(file: &[u8]) -> Result<NewFile<'_>, Error> {
     })
 }
 
-/// Returns the part of the file between two times of the presentation, as `mp4remux cut` writes it. It begins with a
+/// Returns the part of the file between two times of the presentation: what `mp4remux cut` writes. It begins with a
 /// sync sample of the video, and an edit list hides what is before `from`.
 pub fn cut(file: &[u8], from: Duration, to: Duration) -> Result<NewFile<'_>, Error> {
     let (from, to) = (nanoseconds(from), nanoseconds(to));
