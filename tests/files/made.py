@@ -368,6 +368,7 @@ def subtitles():
     - XML subtitles: with a box after their strings, with strings only, with a string that isn't UTF-8, one string too
       few, and cut;
     - WebVTT, one of them cut;
+    - timed text: with all flags and fonts, one of them not UTF-8, with too many fonts, without boxes, and cut;
     - a time code and text, beside the boxes with these codes that describe how such media look;
     - entries outside of an `stsd`."""
     front = bytes(6) + be(2, 3)
@@ -377,18 +378,23 @@ def subtitles():
     xml = [box(b"stpp", front + it) for it in strings] + [box(b"stpp", front[:7])]
     cues = box(b"vttC", b"WEBVTT") + box(b"vlab", b"urn:v") + rates
     texts = [box(b"wvtt", front + cues), box(b"wvtt", front), box(b"wvtt", front[:7])]
+    look = (front + be(4, 0x608E0) + bytes([1, 0xFF, 9, 8, 7, 6]) + be(2, -1, 2, -3, 4, 0, 0, 258)
+            + bytes([7, *range(5)]))
+    fonts = be(2, 1) + b"\x0aSans-Serif" + be(2, 258) + b"\3\xffSf"
+    tables = [box(b"ftab", be(2, count) + fonts) for count in (2, 3)]
+    timed = [box(b"tx3g", look + it) for it in (tables[0] + rates, tables[1], b"")] + [box(b"tx3g", look[:37])]
     code = front + be(4, 0, 3, 30000, 1001) + bytes([30, 0]) + box(b"name", be(2, 4, 0) + b"Reel")
     text = front + be(4, 1, -1) + be(2, *range(1, 8)) + bytes(8) + be(2, 8, 9) + bytes(3) + be(2, 10, 11, 12)
-    look = full(b"tcmi", 0, 0, be(2, 1, 2, 3, 0) + be(2, *range(4, 10)) + b"\4Font")
+    tcmi = full(b"tcmi", 0, 0, be(2, 1, 2, 3, 0) + be(2, *range(4, 10)) + b"\4Font")
     place = be(4, 0x10000, 0x8000, 0, -0x8000, 0x20000, 0, 0x50000, -0x60000, 0x40000000)
     graphics = full(b"gmin", 0, 0, be(2, 64, 0x8000, 0x8001, 0x8002, 0xFE80, 0))
-    media = box(b"gmhd", graphics + box(b"tmcd", look) + box(b"text", place))
+    media = box(b"gmhd", graphics + box(b"tmcd", tcmi) + box(b"text", place))
     codes = [box(b"tmcd", code), box(b"tmcd", front[:7])]
     words = [box(b"text", text + b"\4Text"), box(b"text", front[:7])]
     tracks = [track(1, b"subt", b"", b"und", xml, b""), track(2, b"text", b"", b"und", texts, b""),
               track(3, b"tmcd", b"", b"und", codes, b"", front=media),
-              track(4, b"text", b"", b"und", words, b"", front=media)]
-    return ftyp(b"qt  ", b"qt  ") + movie(*tracks) + xml[1] + texts[0] + codes[0] + words[0]
+              track(4, b"text", b"", b"und", words, b"", front=media), track(5, b"sbtl", b"", b"und", timed, b"")]
+    return ftyp(b"qt  ", b"qt  ") + movie(*tracks) + xml[1] + texts[0] + codes[0] + words[0] + timed[0]
 
 
 def in_chunks(media, *tracks):

@@ -95,7 +95,8 @@ def trees():
         "mdia @0 +134",
         '  hdlr @8 +33 version: 0, flags: 0x000000, handler_type: soun, name: ""',
         "  minf @41 +93",
-        '    hdlr @49 +33 version: 0, flags: 0x000000, component_type: dhlr, handler_type: alis, name: ""',
+        '    hdlr @49 +33 version: 0, flags: 0x000000, component_type: dhlr, handler_type: alis, name: "", '
+        'name_hex: 00 (1 byte)',
         "    stsd @82 +52 version: 0, flags: 0x000000, entry_count: 1",
         "      abcd @98 +36 data_reference_index: 1, channelcount: 2, samplesize: 16, samplerate: 48000"]
     yield "end_of_a_udta", box(b"udta", bytes(4)), ["udta @0 +12", "  - @8 +4 terminator: 0"]

@@ -41,15 +41,17 @@ from tests.rows import rows
 CHANGES = os.path.join(TOP, "tests", "prover", "wrong-definitions.txt")
 # Three names beside those of the crates: the rows, which the program test_probe reads; the rows with the fields of
 # boxes, which the program mp4inspect shows; and the tests of PROGRAM_TESTS, which run mp4inspect. Those whose names
-# REMUX matches run mp4remux instead, and those whose names LIBRARY matches call the library for C.
+# REMUX matches run mp4remux instead, those whose names LIBRARY matches call the library for C, and those whose names
+# PROBE matches run test_probe.
 ROWS = "rows"
 FIELDS = "fields"
 PROGRAMS = "programs"
 PROGRAM_TESTS = ["programs.test_inspect", "programs.test_check", "programs.test_info", "programs.test_diff",
                  "programs.test_faststart", "programs.test_edit", "programs.test_fragment", "readers.test_containers",
-                 "interfaces.test_one_answer", "interfaces.test_library"]
+                 "interfaces.test_one_answer", "interfaces.test_library", "rows.test_taken"]
 REMUX = re.compile(r"programs::test_(faststart|edit|fragment)::")
 LIBRARY = re.compile(r"programs::(test_library::|\w+::\w+_by_(python|rust)$)")
+PROBE = re.compile(r"programs::test_taken::")
 # The number of inputs of test_differential that are read with the rows, and the number of bytes that are read at once.
 # The text of a longer row may be longer than the output that a run without proof keeps.
 INPUTS = 2000
@@ -328,6 +330,8 @@ class Copy:
                 self.build("program", "mp4_remux_program", os.path.join(folder, "mp4_remux_program"))
             if any(map(LIBRARY.match, named)):
                 self.build("library", environment["TEST_LIBRARY"])
+            if any(map(PROBE.match, named)):
+                self.build("program", "test_probe", os.path.join(folder, "test_probe"))
             words = [sys.executable, "-m", "unittest", *named.values()]
             how = {"stdin": subprocess.DEVNULL, "stdout": subprocess.PIPE, "stderr": subprocess.STDOUT}
             ran = subprocess.run(words, cwd=TOP, env=environment, **how)

@@ -206,6 +206,15 @@ class Content:
         self.written += entry.written
         return entry.fields
 
+    def group(self, name, read):
+        """Reads fields with the function `read`, which are members of one field. If `raw` is set, they are fields like
+        any other."""
+        found = self.entry(read)
+        if self.raw:
+            self.fields.update(found)
+        else:
+            self.put(name, found)
+
     def each_to_end(self, name, read):
         """Reads entries up to the end of the box, where the last one has to end. The function `read` reads the fields
         of each."""
@@ -526,15 +535,16 @@ def gmin(c):
 
 
 def set_code(c, name):
-    """Reads a code, which is shown unless it is 0."""
+    """Reads a code, which is shown unless it is 0. Returns its number."""
     piece = c.take(4)
     if c.raw or any(piece):
         c.put(name, c.as_code(piece))
+    return int.from_bytes(piece, "big")
 
 
 def hdlr(c):
     c.numbers("1 version, 3 flags")
-    set_code(c, "component_type")
+    component = set_code(c, "component_type")
     c.code("handler_type")
     set_code(c, "component_manufacturer")
     c.bits("32 -component_flags=0, 32 -component_flags_mask=0")
@@ -544,17 +554,21 @@ def hdlr(c):
     if c.raw:
         c.put("name", c.as_bytes(name))
     else:
-        put_handler_name(c, name)
+        put_handler_name(c, component, name)
 
 
-def put_handler_name(c, name):
-    """Puts the name of a handler. In QuickTime a byte before it is its number of bytes, and no byte of 0 has to end
-    it."""
+def put_handler_name(c, component, name):
+    """Puts the name of a handler. In QuickTime, which has types of components, a byte before the name is its number of
+    bytes, and no byte of 0 has to end it. The bytes are beside the name if they have another form."""
     rest = name[1:]
-    if rest and name[0] in (len(rest), len(rest.removesuffix(b"\0"))):
-        c.put_string("name", rest, b"\0" if rest.endswith(b"\0") else b"")
-    else:
-        c.put_string("name", name, b"\0")
+    is_counted = bool(rest) and name[0] in (len(rest), len(rest.removesuffix(b"\0")))
+    shown = rest if is_counted else name
+    is_ended = shown.endswith(b"\0")
+    text = shown.removesuffix(b"\0")
+    c.put("name", c.as_string(text))
+    is_usual = is_counted and not is_ended if component else is_ended and not is_counted
+    if not is_usual or text.decode("utf-8", "replace").encode() != text:
+        c.put("name_hex", c.as_bytes(name))
 
 
 def hmhd(c):
@@ -1183,6 +1197,30 @@ def vpcc(c):
         c.put("codecInitializationData", c.as_bytes(found))
 
 
+def colour_parts(name):
+    """Returns a function that reads the parts of a colour. If `raw` is set, their names begin with `name`."""
+    return lambda c: c.numbers(", ".join(f"1 {part} [{name}_{part}]" for part in ("red", "green", "blue", "alpha")))
+
+
+def text_style(c):
+    c.numbers("2 startChar [start_char], 2 endChar [end_char], 2 font-ID [font_id],"
+              "1 face-style-flags [face_style_flags], 1 font-size [font_size]")
+    c.group("text-color-rgba", colour_parts("default_style_text_color_rgba"))
+
+
+def tx3g(c):
+    entry_front(c)
+    c.numbers("4 displayFlags [display_flags], i1 horizontal-justification [horizontal_justification],"
+              "i1 vertical-justification [vertical_justification]")
+    c.group("background-color-rgba", colour_parts("background_color_rgba"))
+    c.group("default-text-box", lambda box: box.numbers("i2 top, i2 left, i2 bottom, i2 right"))
+    c.group("default-style", text_style)
+    if c.raw:
+        c.bytes("boxes")
+    else:
+        c.rest()
+
+
 def vvcc(c):
     c.full(1)
     c.bits("5 -reserved=31, 2 LengthSizeMinusOne, 1 ptl_present_flag")
@@ -1206,7 +1244,7 @@ MORE = {
     "esds": esds, "hvcC": hvcc, "keys": keys, "kind": kind, "mdcv": mdcv,
     "mfro": mfro, "prft": prft, "pssh": pssh, "saio": saio, "saiz": saiz, "sbgp": sbgp, "schm": schm, "sdtp": sdtp,
     "senc": senc, "sgpd": sgpd, "sidx": sidx, "styp": styp, "stz2": stz2, "subs": subs, "tenc": tenc, "tfra": tfra,
-    "stpp": stpp, "wvtt": wvtt, "ftab": ftab,
+    "stpp": stpp, "wvtt": wvtt, "ftab": ftab, "tx3g": tx3g,
     "btrt": lambda c: c.numbers("4 bufferSizeDB, 4 maxBitrate, 4 avgBitrate"),
     "clap": lambda c: c.numbers(
         "4 cleanApertureWidthN, 4 cleanApertureWidthD, 4 cleanApertureHeightN, 4 cleanApertureHeightD, i4 horizOffN,"

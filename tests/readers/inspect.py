@@ -383,6 +383,9 @@ CHANNELS = {
     0x800: "top centre surround", 0x1000: "vertical height left", 0x2000: "vertical height centre",
     0x4000: "vertical height right", 0x8000: "top back left", 0x10000: "top back centre", 0x20000: "top back right",
 }
+# The flags of timed text (3GPP TS 26.245, 5.16).
+DISPLAY_FLAGS = {0x20: "scroll_in", 0x40: "scroll_out", 0x800: "continuous_karaoke", 0x20000: "write_text_vertically",
+                 0x40000: "fill_text_region"}
 SAMPLE_FLAGS = {"default_sample_flags", "first_sample_flags", "sample_flags"}
 KINDS = {"vide": "video", "soun": "sound", "text": "text", "sbtl": "subtitles", "subt": "subtitles", "clcp": "captions",
          "hint": "hints", "tmcd": "time code", "meta": "metadata", "pict": "pictures"}
@@ -475,7 +478,11 @@ def value_text(name, value, within):
         return flags_text(value, 8, CHANNELS)
     if name == "mChannelFlags":
         return flags_text(value, 8, {1: "rectangular", 2: "spherical", 4: "metres"})
-    if name in ("displayFlags", "formatSpecificFlags", "general_profile_compatibility_flags"):
+    if name == "displayFlags":
+        return flags_text(value, 8, DISPLAY_FLAGS)
+    if name == "face-style-flags":
+        return flags_text(value, 2, {1: "bold", 2: "italic", 4: "underline"})
+    if name in ("formatSpecificFlags", "general_profile_compatibility_flags"):
         return flags_text(value, 8, {})
     if name == "media_time":
         return "empty" if value == -1 else str(value)
@@ -485,8 +492,6 @@ def value_text(name, value, within):
         return " ".join(map(code_text, value)) or "none"
     if name in BYTES and not (name == "compressorname" and within != "vp09"):
         return bytes_text(value)
-    if name == "default-text-box":
-        return " ".join(map(str, value))
     if name == "matrix":
         rows = [" ".join(fixed_text(value[letter]) for letter in row) for row in ("abu", "cdv", "xyw")]
         return f"({'; '.join(rows)})"
@@ -520,7 +525,7 @@ class Lines:
         for name, value in fields.items():
             if name == "matrix" and value == UNITY:
                 continue
-            is_list = isinstance(value, list) and name not in ("compatible_brands", "default-text-box")
+            is_list = isinstance(value, list) and name != "compatible_brands"
             if before == "\n":
                 self.lines.append(" " * (indent + 2))
             else:

@@ -269,16 +269,16 @@ def records(inputs):
     return b"".join(at.to_bytes(8, "big") + len(buffer).to_bytes(8, "big") + buffer for at, buffer in inputs)
 
 
-def texts_of(out, count):
-    """Returns the texts that the program prints for `count` inputs: `TEXTS` for each."""
+def texts_of(out, count, each=TEXTS):
+    """Returns the texts that the program prints for `count` inputs: `each` of them for an input."""
     texts, at = [], 0
-    while at < len(out) and len(texts) < TEXTS * count:
+    while at < len(out) and len(texts) < each * count:
         end = at + 8 + int.from_bytes(out[at:at + 8], "big")
         texts.append(out[at + 8:end].decode("utf-8"))
         at = end
-    if len(texts) != TEXTS * count:
+    if len(texts) != each * count:
         raise ValueError(f"{len(texts)} texts for {count} inputs")
-    return [texts[at:at + TEXTS] for at in range(0, len(texts), TEXTS)]
+    return [texts[at:at + each] for at in range(0, len(texts), each)]
 
 
 def shown(program, inputs):

@@ -72,6 +72,20 @@ class Declared:
         found = re.search(rf"pub struct {struct} \{{(.*?)\}}", self.source)
         return re.findall(r"pub (\w+):", found[1]) if found else []
 
+    def flat_fields_of(self, struct):
+        """Returns the fields of the struct `struct`. A field that is a struct is replaced by its fields."""
+        found = re.search(rf"pub struct {struct} \{{(.*?)\}}", self.source)
+        for name, kind in re.findall(r"pub (\w+): (\w+)", found[1]) if found else []:
+            yield from self.fields_of(kind) or [name]
+
+    @staticmethod
+    def numbers_of(impl):
+        """Returns the names of the fields that the `numbers` of an impl lists, by the macro or one by one."""
+        listed = re.search(r"numbers_of!\(self => ([^)]*)\)", impl)
+        if listed:
+            return listed[1].replace(" ", "").split(",")
+        return re.findall(r"u64::from\(\w+\.(\w+)\)", re.search(r"fn numbers\(&self\) (.*?) fn ", impl)[1])
+
     def entry(self, struct, count, size):
         """Returns the fields of the entry `struct`, each with its width in bits, from its impls: the one in code, and
         the one for the prover."""
@@ -82,8 +96,8 @@ class Declared:
         widths, others = (
             [int(it) for it in constants[re.search(where, impl[1])[1]].split(",") if it.strip()]
             for where in (r"fn widths\(\) -> \[u8; \w+\] \{ (\w+) \}", r"packed \(fields_of (\w+)\)"))
-        names = re.search(r"numbers_of!\(self => ([^)]*)\)", impl[1])[1].replace(" ", "").split(",")
-        if not widths == others or not names == self.fields_of(struct) or len(names) != len(widths):
+        names = self.numbers_of(impl[1])
+        if not widths == others or names != list(self.flat_fields_of(struct)) or len(names) != len(widths):
             raise Differs(f"{self.code}: {struct} has {names} of {widths} bits, for the prover {others}")
         if sum(widths) != 8 * int(size):
             raise Differs(f"{self.code}: {struct} has {sum(widths)} bits in {size} bytes")

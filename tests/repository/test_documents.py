@@ -16,8 +16,8 @@
 - Tables: the eight counted tables and `trun` take their rows by `read_table` or `read_rows`, and these two functions
   take them by one call of `ByteCursor::take_rows`.
 - Descriptions: docs/boxes.json, docs/boxes.schema.json and docs/FIELDS.md are what tools/describe.py makes from the
-  declarations of the boxes. The classes for Python are what tools/python_classes.py makes from the first of them. The
-  comment of `mp4_fields` in the header names these boxes.
+  declarations of the boxes. The classes for Python and the structs for Rust are what tools/python_classes.py and
+  tools/rust_structs.py make from the first of them. The comment of `mp4_fields` in the header names these boxes.
 - Lines: no line of a source or a document has more than 120 columns, except attributes, which `rt fmt` keeps on one
   line.
 
@@ -31,7 +31,7 @@ import unittest
 from pathlib import Path
 
 from tests.rows import rows
-from tools import describe, python_classes
+from tools import describe, python_classes, rust_structs
 
 TOP = Path(__file__).resolve().parent.parent.parent
 WORDS = re.compile(r"\b(as of|the same|the record of|the name of|a clause for each)\b|^== of")
@@ -178,10 +178,12 @@ def sentences(kinds):
     tests, (gate, script) = [name for name, _ in rows()], edits("*")
     header, changes = read(TOP / "include/mp4_box_codec.h"), read(TOP / "tests/prover/wrong-definitions.txt")
     classes = python_classes.module().count("(Fields):\n")
+    structs = rust_structs.module().count('Box b"')
     return [
         ("README.md", "the (n) of the crate `mp4`", kinds),
         ("CHANGELOG.md", "a class with types for each of (n) types of boxes", classes),
         ("docs/PYTHON.md", "There are classes for (n) types", classes),
+        ("docs/RUST.md", "The module `extra` has structs for (n) types", structs),
         ("docs/ASSURANCE.md", "prover refuses (n) wrong .*? has the prover refuse (n) wrong bodies more", gate, script),
         ("docs/C.md", "`mp4_box_codec.h` declares (n) functions", header.count("\nuint32_t mp4_")),
         ("docs/OWN-BOX.md", "The codec reads (n) types of boxes", kinds),
@@ -364,7 +366,7 @@ class Documents(unittest.TestCase):
         self.agree()
 
     def test_descriptions(self):
-        for tool in (describe, python_classes):
+        for tool in (describe, python_classes, rust_structs):
             for path, text in tool.files().items():
                 self.assertEqual(read(TOP / path), text, f"{path}: run {tool.__name__.replace('.', '/')}.py --write")
 

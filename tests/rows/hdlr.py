@@ -129,7 +129,7 @@ def fields_of_the_standard():
 
 
 def fields_of_quicktime():
-    """QuickTime File Format, "Handler reference atoms"."""
+    """QuickTime File Format, "Handler reference atoms". A name that a byte of 0 ends has another form there."""
     yield fields(
         full(b"hdlr", b"mhlrvideappl", u32(3, 4), b"\5Video", flags=2), version=0, flags=2, component_type="mhlr",
         handler_type="vide", component_manufacturer="appl", component_flags=3, component_flags_mask=4, name="Video",
@@ -139,19 +139,34 @@ def fields_of_quicktime():
         found = {"version": 0, "flags": 0, "component_type": "", "handler_type": "vide", "component_manufacturer": "",
                  "component_flags": "", "component_flags_mask": "", "name": "V", name: value}
         given = changed(full(b"hdlr", u32(0), b"vide", bytes(12), b"V\0"), {at + 3: 1})
+        if name == "component_type":
+            found["name_hex"] = "5600"
         yield fields(given, **{key: it for key, it in found.items() if it != ""})
 
 
 def fields_of_names():
-    """ISO/IEC 14496-12, 8.4.3: a byte of 0 ends the name. QuickTime: a byte before it is its number of bytes."""
+    """ISO/IEC 14496-12, 8.4.3: a byte of 0 ends the name. QuickTime: a byte before it is its number of bytes. The bytes
+    of other forms are beside the name."""
     for name, text, digits in [
         (b"abc\0", "abc", None), (b"abc", "abc", "616263"), (b"\0", "", None), (b"a", "a", "61"),
-        (b"\3abc", "abc", None), (b"\3abc\0", "abc", None), (b"\4abc\0", "abc", None), (b"\0\0", "", None),
-        (b"\1a", "a", None), (b"\1\0", "", None), (b"\2abc\0", "\2abc", None), (b"\5abc\0", "\5abc", None),
-        (b"\2abc", "\2abc", "02616263"), (b"\4abc", "\4abc", "04616263"), (b"\2a\xff", "a\ufffd", "61ff"),
-        (b"\2a\xff\0", "a\ufffd", "61ff00"), (b"a\xff\0", "a\ufffd", "61ff00"), (b"a\0b\0", "a\0b", None),
-        (b"\2ab\0\0", "\2ab\0", None),
+        (b"\3abc", "abc", "03616263"), (b"\3abc\0", "abc", "0361626300"), (b"\4abc\0", "abc", "0461626300"),
+        (b"\0\0", "", "0000"), (b"\1a", "a", "0161"), (b"\1\0", "", "0100"), (b"\2abc\0", "\2abc", None),
+        (b"\5abc\0", "\5abc", None), (b"\2abc", "\2abc", "02616263"), (b"\4abc", "\4abc", "04616263"),
+        (b"\2a\xff", "a\ufffd", "0261ff"), (b"\2a\xff\0", "a\ufffd", "0261ff00"), (b"a\xff\0", "a\ufffd", "61ff00"),
+        (b"a\0b\0", "a\0b", None), (b"\2ab\0\0", "\2ab\0", None),
     ]:
         found = {"name": text} if digits is None else {"name": text, "name_hex": digits}
         yield fields(
             full(b"hdlr", u32(0), b"vide", bytes(12), name), version=0, flags=0, handler_type="vide", **found)
+
+
+def fields_of_names_in_quicktime():
+    """QuickTime File Format, "Handler reference atoms"."""
+    for name, text, digits in [
+        (b"\3abc", "abc", None), (b"\3abc\0", "abc", "0361626300"), (b"abc\0", "abc", "61626300"), (b"\0", "", "00"),
+        (b"abc", "abc", "616263"), (b"\2a\xff", "a\ufffd", "0261ff"),
+    ]:
+        found = {"name": text} if digits is None else {"name": text, "name_hex": digits}
+        yield fields(
+            full(b"hdlr", b"mhlrvide", bytes(12), name), version=0, flags=0, component_type="mhlr",
+            handler_type="vide", **found)

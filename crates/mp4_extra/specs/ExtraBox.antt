@@ -1,9 +1,11 @@
 -- The types of boxes of this crate: those of the four enums.
-use Rattle.std.specs.Prelude.{ℕ, Bool, ◌||◌, if◌then◌else◌, List, Option, None, Some}
+use Rattle.std.specs.Prelude.{ℕ, Bool, ◌||◌, if◌then◌else◌, List, Option, None, Some, Ok, Err}
 use Rattle.mp4_frame.specs.declared.box_type.BoxType.{BoxType}
 use Rattle.mp4_frame.specs.Members.{Known, is_known, reading_known}
 use Rattle.mp4_frame.specs.Reading.{Reading, map_reading}
-use Rattle.mp4_shown.specs.Catalogue.{Entry, Catalogue, Declarations}
+use Rattle.mp4_shown.specs.Catalogue.{Entry, Catalogue, Declarations, code_document}
+use Rattle.mp4_shown.specs.Taking.{Taking}
+use Rattle.json.specs.Json.{Json}
 use Rattle.mp4_extra_pictures.specs.PictureBox.{picture_types}
 use Rattle.mp4_extra_samples.specs.SampleBox.{sample_types}
 use Rattle.mp4_extra_sound.specs.SoundBox.{sound_types}
@@ -84,3 +86,18 @@ module _ (picture : BoxType → Known PictureBox) (sound : BoxType → Known Sou
       if is_known (sound name) then map_reading boxes.Sound (reading_known (sound name) bytes start size) else
       if is_known (sample name) then map_reading boxes.Sample (reading_known (sample name) bytes start size) else
       map_reading boxes.Track (reading_known (track name) bytes start size)
+
+-- the box that a text is, or else another one
+abbrev pub first_document : {A E : Type 0} → (A → E) → Taking (Option A) → Taking (Option E) → Taking (Option E)
+first_document wrap (Ok (Some b)) others = Ok (Some (wrap b))
+first_document wrap (Ok None) others = others
+first_document wrap (Err fault) others = Err fault
+
+-- the box that a text is, of the type with a code, if there is one
+abbrev pub extra_document : Declarations picture_types → Declarations sound_types → Declarations sample_types
+    → Declarations track_types → ℕ → Option Json → Taking (Option ExtraBox)
+extra_document picture sound sample track code j =
+    first_document boxes.Picture (code_document picture_types picture code j)
+    (first_document boxes.Sound (code_document sound_types sound code j)
+    (first_document boxes.Sample (code_document sample_types sample code j)
+    (first_document boxes.Track (code_document track_types track code j) (Ok None))))

@@ -1,11 +1,13 @@
 //! The box types of this crate as one enum.
 
-ghost use Rattle.std.specs.Prelude.{◌≡◌, ◌+◌, ◌-◌, ◌≤◌, IsTrue, OnOk, OnErr, max};
+ghost use Rattle.std.specs.Prelude.{ℕ, Option, ◌≡◌, ◌+◌, ◌-◌, ◌≤◌, IsTrue, OnOk, OnErr, max};
 ghost use Rattle.mp4_frame.specs.Members.{is_known, reading_known};
 ghost use Rattle.mp4_frame.specs.Reading.{Answers, map_reading};
 ghost use Rattle.mp4_shown.specs.Catalogue.{Declarations, inside, kinds, shown, whole};
 ghost use Rattle.mp4_shown.specs.CatalogueLaws.{by_code, members, named};
-ghost use Rattle.mp4_extra.specs.ExtraBox.{declarations, extra_types, known_any, reading_any};
+ghost use Rattle.mp4_extra.specs.ExtraBox.{declarations, extra_document, extra_types, known_any, reading_any};
+ghost use Rattle.json.specs.Json.{Json, document};
+ghost use Rattle.mp4_shown.specs.Taking.{Taking, TakesAs};
 ghost use Rattle.mp4_extra.specs.ExtraBoxLaws.{extra_laws};
 ghost use Rattle.mp4_extra.specs.declared.extra_box.ExtraBox.TheVariants as boxes;
 
@@ -15,7 +17,7 @@ use mp4_extra_samples::sample_box::SampleBox;
 use mp4_extra_sound::sound_box::SoundBox;
 use mp4_extra_tracks::track_box::TrackBox;
 use mp4_frame::{BoxEnum, BoxType, BoxVisitor, ByteCursor, Holds, Result, TryClone, clone_as};
-use mp4_shown::{Catalogued, FieldSink, HasFields, View};
+use mp4_shown::{Catalogued, FieldSink, HasFields, View, taken};
 use std::alloc::Global;
 use std::fmt;
 
@@ -64,6 +66,40 @@ impl ExtraDeclarations for ExtraBox {
     ghost declared = { declarations ⟦<PictureBox as Catalogued>⟧.declared
         ⟦<SoundBox as Catalogued>⟧.declared ⟦<SampleBox as Catalogued>⟧.declared
         ⟦<TrackBox as Catalogued>⟧.declared };
+}
+
+/// For the prover: the box with a code that a JSON value is, if a type has the code.
+pub trait TakenByCode {
+    ghost taken: { ℕ → Option Json → Taking (Option Self) };
+}
+
+impl TakenByCode for ExtraBox {
+    ghost taken = { extra_document ⟦<PictureBox as Catalogued>⟧.declared ⟦<SoundBox as Catalogued>⟧.declared
+        ⟦<SampleBox as Catalogued>⟧.declared ⟦<TrackBox as Catalogued>⟧.declared };
+}
+
+impl ExtraBox {
+    /// Returns the box with the code `code` whose JSON is `text`: an object with its fields, in any order. Returns
+    /// `None` if no type has this code.
+    pub fn from_json(alloc: Global, code: u32, text: &str) -> taken::Result<Option<ExtraBox>>
+        ensures { TakesAs (λ b. b) result (extra_document ⟦<PictureBox as Catalogued>⟧.declared
+            ⟦<SoundBox as Catalogued>⟧.declared ⟦<SampleBox as Catalogued>⟧.declared
+            ⟦<TrackBox as Catalogued>⟧.declared code (document text.now)) }
+    {
+        if let Some(b) = PictureBox::from_json(alloc, code, text)? {
+            return Ok(Some(ExtraBox::Picture(b)));
+        }
+        if let Some(b) = SoundBox::from_json(alloc, code, text)? {
+            return Ok(Some(ExtraBox::Sound(b)));
+        }
+        if let Some(b) = SampleBox::from_json(alloc, code, text)? {
+            return Ok(Some(ExtraBox::Sample(b)));
+        }
+        match TrackBox::from_json(alloc, code, text)? {
+            Some(b) => Ok(Some(ExtraBox::Track(b))),
+            None => Ok(None),
+        }
+    }
 }
 
 /// Returns whether one of the four enums holds boxes with the name `name`.

@@ -5,7 +5,7 @@
 
 mod extra_box;
 
-pub use extra_box::ExtraBox;
+pub use extra_box::{ExtraBox, TakenByCode};
 pub use mp4_extra_pictures::picture_box::PictureBox;
 pub use mp4_extra_samples::sample_box::SampleBox;
 pub use mp4_extra_sound::sound_box::SoundBox;

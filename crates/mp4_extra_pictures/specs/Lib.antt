@@ -8,3 +8,7 @@ pub mod AvcProfile
 pub mod AvcLeast
 pub mod PictureBox
 pub mod PictureBoxLaws
+pub mod TakenAvcc
+pub mod TakenAv1c
+pub mod TakenColr
+pub mod TakenUnits

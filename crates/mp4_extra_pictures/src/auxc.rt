@@ -1,5 +1,6 @@
 //! The auxiliary type property box.
 
+ghost use Rattle.mp4_shown.specs.TakenShapes.{declared_taken};
 ghost use Rattle.mp4_extra_pictures.specs.declared.auxc.TheConstants.{NAMES};
 ghost use Rattle.mp4_frame.specs.declared.codes.TheConstants as codes;
 ghost use Rattle.mp4_declared.specs.OwnBox.{layout_of};
@@ -7,9 +8,11 @@ ghost use Rattle.std.proofs.Common.{refl, lit<};
 
 use mp4_declared::declaring::*;
 use mp4_frame::{Result, codes};
+use mp4_shown::taken::{self, Object, TakeFields, TakeShape, take_declared};
 use mp4_shown::{
     FLAGS, FieldSink, HasFields, NamedShape, VERSION, View, names_of, run, show_shape,
 };
+use std::alloc::Global;
 
 /// The role of an auxiliary image (`auxC`, ISO/IEC 23008-12, 6.5.8).
 #[derive(Debug, Drop, PartialEq, Eq)]
@@ -68,6 +71,14 @@ impl HasFields for Auxc {
     fn show<K: FieldSink>(&self, view: View, sink: &mut K) -> mp4_shown::Result<()> {
         let parts = parts_of!(self => version, flags, aux_type.as_slice(), aux_subtype.as_slice());
         show_shape::<AuxcShape, _, K>(NAMES, view, &parts, sink)
+    }
+}
+
+impl TakeFields for Auxc {
+    ghost taken = { declared_taken ⟦<Auxc as DeclaredBox>⟧.layout (⟦<AuxcShape as TakeShape>⟧.taken NAMES.now) };
+
+    fn take(alloc: Global, object: &mut Object<'_>) -> taken::Result<Auxc> {
+        take_declared::<Auxc, AuxcShape>(alloc, NAMES, object)
     }
 }
 

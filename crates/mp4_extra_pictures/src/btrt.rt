@@ -1,5 +1,6 @@
 //! The bit rate box.
 
+ghost use Rattle.mp4_shown.specs.TakenShapes.{declared_taken};
 ghost use Rattle.mp4_extra_pictures.specs.declared.btrt.TheConstants.{NAMES};
 ghost use Rattle.mp4_frame.specs.declared.codes.TheConstants as codes;
 ghost use Rattle.std.proofs.Common.{refl, lit<};
@@ -7,7 +8,9 @@ ghost use Rattle.mp4_declared.specs.OwnBox.{layout_of};
 
 use mp4_declared::{Declared, DeclaredBox, Last, Shape, ShapeVisitor, U32, box_of, parts_of};
 use mp4_frame::{Result, TryClone, codes};
+use mp4_shown::taken::{self, Object, TakeFields, TakeShape, take_declared};
 use mp4_shown::{FieldSink, HasFields, NamedShape, ShowShape, View, names_of, number};
+use std::alloc::Global;
 
 /// The bit rates of the media of a sample entry (`btrt`, ISO/IEC 14496-12, 8.5.2.2).
 #[derive(Clone, Copy, Debug, Drop, PartialEq, Eq)]
@@ -65,6 +68,14 @@ impl HasFields for Btrt {
     fn show<K: FieldSink>(&self, view: View, sink: &mut K) -> mp4_shown::Result<()> {
         let parts = parts_of!(self => buffer_size_db, max_bitrate, avg_bitrate);
         BtrtShape::show(NAMES, view, &parts, sink)
+    }
+}
+
+impl TakeFields for Btrt {
+    ghost taken = { declared_taken ⟦<Btrt as DeclaredBox>⟧.layout (⟦<BtrtShape as TakeShape>⟧.taken NAMES.now) };
+
+    fn take(alloc: Global, object: &mut Object<'_>) -> taken::Result<Btrt> {
+        take_declared::<Btrt, BtrtShape>(alloc, NAMES, object)
     }
 }
 

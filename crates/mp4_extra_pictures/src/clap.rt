@@ -1,5 +1,6 @@
 //! The clean aperture box.
 
+ghost use Rattle.mp4_shown.specs.TakenShapes.{declared_taken};
 ghost use Rattle.mp4_extra_pictures.specs.declared.clap.TheConstants.{NAMES};
 ghost use Rattle.mp4_frame.specs.declared.codes.TheConstants as codes;
 ghost use Rattle.std.proofs.Common.{refl, lit<};
@@ -7,7 +8,9 @@ ghost use Rattle.mp4_declared.specs.OwnBox.{layout_of};
 
 use mp4_declared::{Declared, DeclaredBox, I32, Last, Shape, ShapeVisitor, U32, box_of, parts_of};
 use mp4_frame::{Result, TryClone, codes};
+use mp4_shown::taken::{self, Object, TakeFields, TakeShape, take_declared};
 use mp4_shown::{FieldSink, HasFields, NamedShape, ShowShape, View, names_of, number};
+use std::alloc::Global;
 
 /// The part of a video's pictures to show (`clap`, ISO/IEC 14496-12, 12.1.4). Width, height and offsets are fractions,
 /// in pixels. Each has a numerator (`_n`) and a positive denominator (`_d`).
@@ -87,6 +90,14 @@ impl HasFields for Clap {
             clean_aperture_height_n, clean_aperture_height_d, horiz_off_n, horiz_off_d, vert_off_n,
             vert_off_d);
         ClapShape::show(NAMES, view, &parts, sink)
+    }
+}
+
+impl TakeFields for Clap {
+    ghost taken = { declared_taken ⟦<Clap as DeclaredBox>⟧.layout (⟦<ClapShape as TakeShape>⟧.taken NAMES.now) };
+
+    fn take(alloc: Global, object: &mut Object<'_>) -> taken::Result<Clap> {
+        take_declared::<Clap, ClapShape>(alloc, NAMES, object)
     }
 }
 

@@ -1,5 +1,6 @@
 //! The content light level box.
 
+ghost use Rattle.mp4_shown.specs.TakenShapes.{declared_taken};
 ghost use Rattle.mp4_extra_pictures.specs.declared.clli.TheConstants.{NAMES};
 ghost use Rattle.mp4_frame.specs.declared.codes.TheConstants as codes;
 ghost use Rattle.std.proofs.Common.{refl, lit<};
@@ -7,7 +8,9 @@ ghost use Rattle.mp4_declared.specs.OwnBox.{layout_of};
 
 use mp4_declared::{Declared, DeclaredBox, Last, Shape, ShapeVisitor, U16, box_of, parts_of};
 use mp4_frame::{Result, TryClone, codes};
+use mp4_shown::taken::{self, Object, TakeFields, TakeShape, take_declared};
 use mp4_shown::{FieldSink, HasFields, NamedShape, ShowShape, View, names_of, number};
+use std::alloc::Global;
 
 /// The brightness of a video's pictures (`clli`, ISO/IEC 14496-12, 12.1.6).
 #[derive(Clone, Copy, Debug, Drop, PartialEq, Eq)]
@@ -60,6 +63,14 @@ impl HasFields for Clli {
     fn show<K: FieldSink>(&self, view: View, sink: &mut K) -> mp4_shown::Result<()> {
         let parts = parts_of!(self => max_content_light_level, max_pic_average_light_level);
         ClliShape::show(NAMES, view, &parts, sink)
+    }
+}
+
+impl TakeFields for Clli {
+    ghost taken = { declared_taken ⟦<Clli as DeclaredBox>⟧.layout (⟦<ClliShape as TakeShape>⟧.taken NAMES.now) };
+
+    fn take(alloc: Global, object: &mut Object<'_>) -> taken::Result<Clli> {
+        take_declared::<Clli, ClliShape>(alloc, NAMES, object)
     }
 }
 

@@ -1,5 +1,6 @@
 //! The Dolby Vision configuration box of profiles up to 7.
 
+ghost use Rattle.mp4_shown.specs.TakenShapes.{declared_taken};
 ghost use Rattle.mp4_extra_pictures.specs.declared.dvcc.TheConstants.{NAMES, WIDTHS};
 ghost use Rattle.mp4_frame.specs.declared.codes.TheConstants as codes;
 ghost use Rattle.mp4_declared.specs.OwnBox.{layout_of};
@@ -9,9 +10,11 @@ ghost use Rattle.std.proofs.Common.{refl, lit<};
 use mp4_declared::Zeros;
 use mp4_declared::declaring::*;
 use mp4_frame::{Result, codes};
+use mp4_shown::taken::{self, Object, TakeFields, TakeShape, take_declared};
 use mp4_shown::{
     FieldSink, HasFields, Meaning, NamedShape, NumberName, ShowShape, View, names_of, number,
 };
+use std::alloc::Global;
 
 /// The fields of a `dvcC` or a `dvvC`.
 #[derive(Clone, Copy, Debug, Default, PartialEq, Eq)]
@@ -132,6 +135,14 @@ impl HasFields for Dvcc {
     fn show<K: FieldSink>(&self, view: View, sink: &mut K) -> mp4_shown::Result<()> {
         let parts = parts_of!(self => config);
         DvccShape::show(NAMES, view, &parts, sink)
+    }
+}
+
+impl TakeFields for Dvcc {
+    ghost taken = { declared_taken ⟦<Dvcc as DeclaredBox>⟧.layout (⟦<DvccShape as TakeShape>⟧.taken NAMES.now) };
+
+    fn take(alloc: Global, object: &mut Object<'_>) -> taken::Result<Dvcc> {
+        take_declared::<Dvcc, DvccShape>(alloc, NAMES, object)
     }
 }
 

@@ -1,5 +1,6 @@
 //! The Dolby Vision configuration box of profiles 8 to 10.
 
+ghost use Rattle.mp4_shown.specs.TakenShapes.{declared_taken};
 ghost use Rattle.mp4_extra_pictures.specs.declared.dvvc.TheConstants.{NAMES};
 ghost use Rattle.mp4_frame.specs.declared.codes.TheConstants as codes;
 ghost use Rattle.mp4_declared.specs.OwnBox.{layout_of};
@@ -9,7 +10,9 @@ use crate::dvcc::{CONFIG, DolbyVisionConfig};
 use mp4_declared::Zeros;
 use mp4_declared::declaring::*;
 use mp4_frame::{Result, codes};
+use mp4_shown::taken::{self, Object, TakeFields, TakeShape, take_declared};
 use mp4_shown::{FieldSink, HasFields, NamedShape, ShowShape, View, names_of};
+use std::alloc::Global;
 
 /// The configuration of Dolby Vision in profiles 8 to 10 (`dvvC`, Dolby Vision Streams Within the ISO Base
 /// Media File Format, "Configuration boxes").
@@ -58,6 +61,14 @@ impl HasFields for Dvvc {
     fn show<K: FieldSink>(&self, view: View, sink: &mut K) -> mp4_shown::Result<()> {
         let parts = parts_of!(self => config);
         DvvcShape::show(NAMES, view, &parts, sink)
+    }
+}
+
+impl TakeFields for Dvvc {
+    ghost taken = { declared_taken ⟦<Dvvc as DeclaredBox>⟧.layout (⟦<DvvcShape as TakeShape>⟧.taken NAMES.now) };
+
+    fn take(alloc: Global, object: &mut Object<'_>) -> taken::Result<Dvvc> {
+        take_declared::<Dvvc, DvvcShape>(alloc, NAMES, object)
     }
 }
 

@@ -1,5 +1,6 @@
 //! The field handling box.
 
+ghost use Rattle.mp4_shown.specs.TakenShapes.{declared_taken};
 ghost use Rattle.mp4_extra_pictures.specs.declared.fiel.TheConstants.{NAMES};
 ghost use Rattle.mp4_frame.specs.declared.codes.TheConstants as codes;
 ghost use Rattle.mp4_declared.specs.OwnBox.{layout_of};
@@ -7,7 +8,9 @@ ghost use Rattle.std.proofs.Common.{refl, lit<};
 
 use mp4_declared::declaring::*;
 use mp4_frame::{Result, codes};
+use mp4_shown::taken::{self, Object, TakeFields, TakeShape, take_declared};
 use mp4_shown::{FieldSink, HasFields, Meaning, NamedShape, ShowShape, View, names_of, number};
+use std::alloc::Global;
 
 /// The fields of a video (`fiel`, QuickTime File Format, "Video sample description extensions").
 #[derive(Clone, Copy, Debug, Drop, PartialEq, Eq)]
@@ -73,6 +76,14 @@ impl HasFields for Fiel {
     fn show<K: FieldSink>(&self, view: View, sink: &mut K) -> mp4_shown::Result<()> {
         let parts = parts_of!(self => fields, detail);
         FielShape::show(NAMES, view, &parts, sink)
+    }
+}
+
+impl TakeFields for Fiel {
+    ghost taken = { declared_taken ⟦<Fiel as DeclaredBox>⟧.layout (⟦<FielShape as TakeShape>⟧.taken NAMES.now) };
+
+    fn take(alloc: Global, object: &mut Object<'_>) -> taken::Result<Fiel> {
+        take_declared::<Fiel, FielShape>(alloc, NAMES, object)
     }
 }
 

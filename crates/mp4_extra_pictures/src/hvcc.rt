@@ -1,5 +1,7 @@
 //! The HEVC configuration box.
 
+ghost use Rattle.mp4_shown.specs.TakenShapes.{entry_made};
+ghost use Rattle.mp4_shown.specs.TakenShapes.{declared_taken};
 ghost use Rattle.mp4_extra_pictures.specs.declared.hvcc.TheConstants.{PROFILE_WIDTHS, FORMAT_WIDTHS, RATE_WIDTHS};
 ghost use Rattle.mp4_extra_pictures.specs.declared.hvcc.TheConstants.{NAMES};
 ghost use Rattle.mp4_frame.specs.declared.codes.TheConstants as codes;
@@ -12,14 +14,16 @@ ghost use Rattle.mp4_declared.specs.DeclaredEntry.{exact_layout_of};
 ghost use Rattle.mp4_declared.specs.Layout.{packed, fields_of};
 
 use mp4_declared::{
-    Bits, Bytes, Declared, DeclaredBox, DeclaredEntry, Each, EntryLayout, EntryVisitor, Last,
-    Shape, ShapeVisitor, U8, U16, box_of, clone_each, entry_of, numbers_of, parts_of,
+    Bits, Bytes, Context, Declared, DeclaredBox, DeclaredEntry, Each, EntryLayout, EntryVisitor,
+    Last, Shape, ShapeVisitor, U8, U16, box_of, clone_each, entry_of, numbers_of, parts_of,
 };
 use mp4_frame::{Entries, Result, TryClone, codes};
+use mp4_shown::taken::{self, Object, TakeEntry, TakeFields, TakeShape, take_declared, take_entry};
 use mp4_shown::{
     FieldSink, HasFields, Meaning, NamedShape, NumberName, ShowShape, ShownEntry, Value, View,
     list, names_of, number,
 };
+use std::alloc::Global;
 
 /// The requirements on a decoder. The names are those of HEVC (ISO/IEC 23008-2, 7.4.4).
 #[derive(Clone, Copy, Debug, Default, PartialEq, Eq)]
@@ -321,6 +325,15 @@ impl ShownEntry for HevcArray {
     }
 }
 
+impl TakeEntry for HevcArray {
+    ghost taken = { λ c j. entry_made ⟦<HevcArray as DeclaredEntry>⟧.layout.value
+        (⟦<HevcArrayShape as TakeShape>⟧.taken ARRAY.now c) j };
+
+    fn take(alloc: Global, context: Context, value: json::Value<'_>) -> taken::Result<HevcArray> {
+        take_entry::<HevcArray, HevcArrayShape>(alloc, ARRAY, context, value)
+    }
+}
+
 /// The configuration of an HEVC decoder (`hvcC`, ISO/IEC 14496-15, 8.3.3.1).
 #[derive(Debug, Drop, PartialEq, Eq)]
 pub struct Hvcc {
@@ -425,6 +438,14 @@ impl HasFields for Hvcc {
         let parts = parts_of!(self => configuration_version, profile, format, avg_frame_rate, rate,
             arrays.as_slice());
         HvccShape::show(NAMES, view, &parts, sink)
+    }
+}
+
+impl TakeFields for Hvcc {
+    ghost taken = { declared_taken ⟦<Hvcc as DeclaredBox>⟧.layout (⟦<HvccShape as TakeShape>⟧.taken NAMES.now) };
+
+    fn take(alloc: Global, object: &mut Object<'_>) -> taken::Result<Hvcc> {
+        take_declared::<Hvcc, HvccShape>(alloc, NAMES, object)
     }
 }
 

@@ -1,5 +1,6 @@
 //! The image mirror box.
 
+ghost use Rattle.mp4_shown.specs.TakenShapes.{declared_taken};
 ghost use Rattle.mp4_extra_pictures.specs.declared.imir.TheConstants.{NAMES, WIDTHS};
 ghost use Rattle.mp4_frame.specs.declared.codes.TheConstants as codes;
 ghost use Rattle.mp4_declared.specs.OwnBox.{layout_of};
@@ -8,7 +9,9 @@ ghost use Rattle.std.proofs.Common.{refl, lit<};
 
 use mp4_declared::declaring::*;
 use mp4_frame::{Result, codes};
+use mp4_shown::taken::{self, Object, TakeFields, TakeShape, take_declared};
 use mp4_shown::{FieldSink, HasFields, NamedShape, NumberName, ShowShape, View, names_of, number};
+use std::alloc::Global;
 
 /// The bits of an `imir`.
 #[derive(Clone, Copy, Debug, Default, PartialEq, Eq)]
@@ -91,6 +94,14 @@ impl HasFields for Imir {
     fn show<K: FieldSink>(&self, view: View, sink: &mut K) -> mp4_shown::Result<()> {
         let parts = parts_of!(self => mirror);
         ImirShape::show(NAMES, view, &parts, sink)
+    }
+}
+
+impl TakeFields for Imir {
+    ghost taken = { declared_taken ⟦<Imir as DeclaredBox>⟧.layout (⟦<ImirShape as TakeShape>⟧.taken NAMES.now) };
+
+    fn take(alloc: Global, object: &mut Object<'_>) -> taken::Result<Imir> {
+        take_declared::<Imir, ImirShape>(alloc, NAMES, object)
     }
 }
 

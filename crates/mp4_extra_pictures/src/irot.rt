@@ -1,5 +1,6 @@
 //! The image rotation box.
 
+ghost use Rattle.mp4_shown.specs.TakenShapes.{declared_taken};
 ghost use Rattle.mp4_extra_pictures.specs.declared.irot.TheConstants.{NAMES, WIDTHS};
 ghost use Rattle.mp4_frame.specs.declared.codes.TheConstants as codes;
 ghost use Rattle.mp4_declared.specs.OwnBox.{layout_of};
@@ -8,9 +9,11 @@ ghost use Rattle.std.proofs.Common.{refl, lit<};
 
 use mp4_declared::declaring::*;
 use mp4_frame::{Result, codes};
+use mp4_shown::taken::{self, Object, TakeFields, TakeShape, take_declared};
 use mp4_shown::{
     FieldSink, HasFields, Meaning, NamedShape, NumberName, ShowShape, View, names_of, number,
 };
+use std::alloc::Global;
 
 /// The bits of an `irot`.
 #[derive(Clone, Copy, Debug, Default, PartialEq, Eq)]
@@ -104,6 +107,14 @@ impl HasFields for Irot {
     fn show<K: FieldSink>(&self, view: View, sink: &mut K) -> mp4_shown::Result<()> {
         let parts = parts_of!(self => rotation);
         IrotShape::show(NAMES, view, &parts, sink)
+    }
+}
+
+impl TakeFields for Irot {
+    ghost taken = { declared_taken ⟦<Irot as DeclaredBox>⟧.layout (⟦<IrotShape as TakeShape>⟧.taken NAMES.now) };
+
+    fn take(alloc: Global, object: &mut Object<'_>) -> taken::Result<Irot> {
+        take_declared::<Irot, IrotShape>(alloc, NAMES, object)
     }
 }
 

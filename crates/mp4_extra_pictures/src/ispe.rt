@@ -1,5 +1,6 @@
 //! The image spatial extents box.
 
+ghost use Rattle.mp4_shown.specs.TakenShapes.{declared_taken};
 ghost use Rattle.mp4_extra_pictures.specs.declared.ispe.TheConstants.{NAMES};
 ghost use Rattle.mp4_frame.specs.declared.codes.TheConstants as codes;
 ghost use Rattle.mp4_declared.specs.OwnBox.{layout_of};
@@ -7,9 +8,11 @@ ghost use Rattle.std.proofs.Common.{refl, lit<};
 
 use mp4_declared::declaring::*;
 use mp4_frame::{Result, codes};
+use mp4_shown::taken::{self, Object, TakeFields, TakeShape, take_declared};
 use mp4_shown::{
     FLAGS, FieldSink, HasFields, NamedShape, ShowShape, VERSION, View, names_of, number,
 };
+use std::alloc::Global;
 
 /// The size of an image (`ispe`, ISO/IEC 23008-12, 6.5.3).
 #[derive(Clone, Copy, Debug, Drop, PartialEq, Eq)]
@@ -68,6 +71,14 @@ impl HasFields for Ispe {
     fn show<K: FieldSink>(&self, view: View, sink: &mut K) -> mp4_shown::Result<()> {
         let parts = parts_of!(self => version, flags, image_width, image_height);
         IspeShape::show(NAMES, view, &parts, sink)
+    }
+}
+
+impl TakeFields for Ispe {
+    ghost taken = { declared_taken ⟦<Ispe as DeclaredBox>⟧.layout (⟦<IspeShape as TakeShape>⟧.taken NAMES.now) };
+
+    fn take(alloc: Global, object: &mut Object<'_>) -> taken::Result<Ispe> {
+        take_declared::<Ispe, IspeShape>(alloc, NAMES, object)
     }
 }
 

@@ -18,6 +18,7 @@ pub mod imir;
 pub mod irot;
 pub mod ispe;
 pub mod mdcv;
+mod nal_unit;
 pub mod pasp;
 pub mod picture_box;
 pub mod pixi;

@@ -1,5 +1,6 @@
 //! The mastering display colour volume box.
 
+ghost use Rattle.mp4_shown.specs.TakenShapes.{declared_taken};
 ghost use Rattle.mp4_extra_pictures.specs.declared.mdcv.TheConstants.{WIDTHS, NAMES};
 ghost use Rattle.mp4_frame.specs.declared.codes.TheConstants as codes;
 ghost use Rattle.std.proofs.Common.{refl, lit<};
@@ -11,7 +12,9 @@ use mp4_declared::{
     numbers_of, parts_of,
 };
 use mp4_frame::{Result, TryClone, codes};
+use mp4_shown::taken::{self, Object, TakeFields, TakeShape, take_declared};
 use mp4_shown::{FieldSink, HasFields, NamedShape, NumberName, ShowShape, View, names_of, number};
+use std::alloc::Global;
 
 /// A chromaticity, as a point in the CIE 1931 diagram. Coordinates are in units of 0.00002 and at most 50,000.
 #[derive(Clone, Copy, Debug, Default, PartialEq, Eq)]
@@ -140,6 +143,14 @@ impl HasFields for Mdcv {
             display_primaries_2, white_point, max_display_mastering_luminance,
             min_display_mastering_luminance);
         MdcvShape::show(NAMES, view, &parts, sink)
+    }
+}
+
+impl TakeFields for Mdcv {
+    ghost taken = { declared_taken ⟦<Mdcv as DeclaredBox>⟧.layout (⟦<MdcvShape as TakeShape>⟧.taken NAMES.now) };
+
+    fn take(alloc: Global, object: &mut Object<'_>) -> taken::Result<Mdcv> {
+        take_declared::<Mdcv, MdcvShape>(alloc, NAMES, object)
     }
 }
 

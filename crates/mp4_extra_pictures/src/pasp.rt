@@ -1,5 +1,6 @@
 //! The pixel aspect ratio box.
 
+ghost use Rattle.mp4_shown.specs.TakenShapes.{declared_taken};
 ghost use Rattle.mp4_extra_pictures.specs.declared.pasp.TheConstants.{NAMES};
 ghost use Rattle.mp4_frame.specs.declared.codes.TheConstants as codes;
 ghost use Rattle.std.proofs.Common.{refl, lit<};
@@ -7,7 +8,9 @@ ghost use Rattle.mp4_declared.specs.OwnBox.{layout_of};
 
 use mp4_declared::{Declared, DeclaredBox, Last, Shape, ShapeVisitor, U32, box_of, parts_of};
 use mp4_frame::{Result, TryClone, codes};
+use mp4_shown::taken::{self, Object, TakeFields, TakeShape, take_declared};
 use mp4_shown::{FieldSink, HasFields, NamedShape, ShowShape, View, names_of, number};
+use std::alloc::Global;
 
 /// The aspect ratio of a video's pixels (`pasp`, ISO/IEC 14496-12, 12.1.4): width to height is `h_spacing` to
 /// `v_spacing`.
@@ -59,6 +62,14 @@ impl HasFields for Pasp {
 
     fn show<K: FieldSink>(&self, view: View, sink: &mut K) -> mp4_shown::Result<()> {
         PaspShape::show(NAMES, view, &parts_of!(self => h_spacing, v_spacing), sink)
+    }
+}
+
+impl TakeFields for Pasp {
+    ghost taken = { declared_taken ⟦<Pasp as DeclaredBox>⟧.layout (⟦<PaspShape as TakeShape>⟧.taken NAMES.now) };
+
+    fn take(alloc: Global, object: &mut Object<'_>) -> taken::Result<Pasp> {
+        take_declared::<Pasp, PaspShape>(alloc, NAMES, object)
     }
 }
 

@@ -4,7 +4,10 @@ ghost use Rattle.std.specs.Prelude.{◌≡◌, ◌+◌, ◌-◌, ◌≤◌, OnOk
 ghost use Rattle.std.proofs.Common.{refl};
 ghost use Rattle.mp4_frame.specs.Reading.{Answers};
 ghost use Rattle.mp4_frame.specs.Members.{reading_known, Is};
-ghost use Rattle.mp4_shown.specs.Catalogue.{inside, kind_of, kinds, shown, valid_as, whole};
+ghost use Rattle.mp4_shown.specs.Catalogue.{code_document, inside, kind_of, kinds, shown, type_document, valid_as};
+ghost use Rattle.mp4_shown.specs.Catalogue.{whole};
+ghost use Rattle.json.specs.Json.{document};
+ghost use Rattle.mp4_shown.specs.Taking.{TakesAs};
 ghost use Rattle.mp4_shown.specs.CatalogueLaws.{by_code, members, named};
 ghost use Rattle.mp4_extra_pictures.specs.PictureBox.{picture_types, picture_of_code};
 ghost use Rattle.mp4_extra_pictures.specs.PictureBoxLaws.{picture_laws};
@@ -36,7 +39,7 @@ use mp4_frame::{
 };
 use mp4_shown::{
     Catalogued, Described, FieldSink, HasFields, View, each_held, print_held, read_declared,
-    show_each, type_by_code, types_held, visit_each,
+    show_each, take_by_type, taken, type_by_code, types_held, visit_each,
 };
 use std::alloc::Global;
 use std::fmt;
@@ -197,6 +200,28 @@ fn read_of(of: PictureType, alloc: Global, reader: &mut ByteCursor, size: u64) -
         of,
         (alloc, reader, size)
     )
+}
+
+/// Returns the box of the type `of` whose JSON is `text`.
+fn take_of(of: PictureType, alloc: Global, text: &str) -> taken::Result<PictureBox>
+    ensures { TakesAs (λ b. b) result
+        (type_document picture_types ⟦<PictureBox as Catalogued>⟧.declared of (document text.now)) }
+{
+    of_boxes!(take_by_type, PictureType, PictureBox, of, alloc, text)
+}
+
+impl PictureBox {
+    /// Returns the box with the code `code` whose JSON is `text`: an object with its fields, in any order. Returns
+    /// `None` if no type has this code.
+    pub fn from_json(alloc: Global, code: u32, text: &str) -> taken::Result<Option<PictureBox>>
+        ensures { TakesAs (λ b. b) result
+            (code_document picture_types ⟦<PictureBox as Catalogued>⟧.declared code (document text.now)) }
+    {
+        match type_of(code) {
+            Some(of) => Ok(Some(take_of(of, alloc, text)?)),
+            None => Ok(None),
+        }
+    }
 }
 
 impl BoxEnum for PictureBox {

@@ -1,5 +1,6 @@
 //! The pixel information box.
 
+ghost use Rattle.mp4_shown.specs.TakenShapes.{declared_taken};
 ghost use Rattle.mp4_extra_pictures.specs.declared.pixi.TheConstants.{NAMES};
 ghost use Rattle.mp4_frame.specs.declared.codes.TheConstants as codes;
 ghost use Rattle.mp4_declared.specs.OwnBox.{layout_of};
@@ -7,7 +8,9 @@ ghost use Rattle.std.proofs.Common.{refl, lit<};
 
 use mp4_declared::declaring::*;
 use mp4_frame::{Result, codes};
+use mp4_shown::taken::{self, Object, TakeFields, TakeShape, take_declared};
 use mp4_shown::{FLAGS, FieldSink, HasFields, NamedShape, ShowShape, VERSION, View, names_of, run};
+use std::alloc::Global;
 
 /// The number and the size of an image's channels (`pixi`, ISO/IEC 23008-12, 6.5.6).
 #[derive(Debug, Drop, PartialEq, Eq)]
@@ -63,6 +66,14 @@ impl HasFields for Pixi {
     fn show<K: FieldSink>(&self, view: View, sink: &mut K) -> mp4_shown::Result<()> {
         let parts = parts_of!(self => version, flags, bits_per_channel.as_slice());
         PixiShape::show(NAMES, view, &parts, sink)
+    }
+}
+
+impl TakeFields for Pixi {
+    ghost taken = { declared_taken ⟦<Pixi as DeclaredBox>⟧.layout (⟦<PixiShape as TakeShape>⟧.taken NAMES.now) };
+
+    fn take(alloc: Global, object: &mut Object<'_>) -> taken::Result<Pixi> {
+        take_declared::<Pixi, PixiShape>(alloc, NAMES, object)
     }
 }
 

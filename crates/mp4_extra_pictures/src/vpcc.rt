@@ -1,5 +1,6 @@
 //! The VP codec configuration box.
 
+ghost use Rattle.mp4_shown.specs.TakenShapes.{declared_taken};
 ghost use Rattle.mp4_extra_pictures.specs.declared.vpcc.TheConstants.{DRAFT_WIDTHS, FORMAT_WIDTHS, NAMES};
 ghost use Rattle.mp4_frame.specs.declared.codes.TheConstants as codes;
 ghost use Rattle.std.proofs.Common.{refl, lit<};
@@ -12,10 +13,12 @@ use mp4_declared::{
     ShapeVisitor, U8, U16, VersionZero, box_of, entry_of, numbers_of, parts_of,
 };
 use mp4_frame::{Entries, Result, TryClone, codes};
+use mp4_shown::taken::{self, Object, TakeFields, TakeShape, take_declared};
 use mp4_shown::{
     FLAGS, FieldSink, HasFields, Meaning, NamedShape, NumberName, ShowShape, VERSION, View,
     names_of, number, run,
 };
+use std::alloc::Global;
 
 /// The format of pictures in version 0, which drafts of the binding had.
 #[derive(Clone, Copy, Debug, Default, PartialEq, Eq)]
@@ -205,6 +208,14 @@ impl HasFields for Vpcc {
         let parts = parts_of!(self => version, flags, profile, level, draft_format, format,
             codec_initialization_data.as_slice());
         VpccShape::show(NAMES, view, &parts, sink)
+    }
+}
+
+impl TakeFields for Vpcc {
+    ghost taken = { declared_taken ⟦<Vpcc as DeclaredBox>⟧.layout (⟦<VpccShape as TakeShape>⟧.taken NAMES.now) };
+
+    fn take(alloc: Global, object: &mut Object<'_>) -> taken::Result<Vpcc> {
+        take_declared::<Vpcc, VpccShape>(alloc, NAMES, object)
     }
 }
 

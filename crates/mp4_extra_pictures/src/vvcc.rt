@@ -1,5 +1,6 @@
 //! The VVC configuration box.
 
+ghost use Rattle.mp4_shown.specs.TakenShapes.{declared_taken};
 ghost use Rattle.mp4_extra_pictures.specs.declared.vvcc.TheConstants.{NAMES, WIDTHS};
 ghost use Rattle.mp4_frame.specs.declared.codes.TheConstants as codes;
 ghost use Rattle.mp4_declared.specs.OwnBox.{layout_of};
@@ -8,10 +9,12 @@ ghost use Rattle.std.proofs.Common.{refl, lit<};
 
 use mp4_declared::declaring::*;
 use mp4_frame::{Result, codes};
+use mp4_shown::taken::{self, Object, TakeFields, TakeShape, take_declared};
 use mp4_shown::{
     FLAGS, FieldSink, HasFields, NamedShape, NumberName, ShowShape, VERSION, View, names_of,
     number, run,
 };
+use std::alloc::Global;
 
 /// The first byte of the configuration of a VVC decoder.
 #[derive(Clone, Copy, Debug, Default, PartialEq, Eq)]
@@ -121,6 +124,14 @@ impl HasFields for Vvcc {
     fn show<K: FieldSink>(&self, view: View, sink: &mut K) -> mp4_shown::Result<()> {
         let parts = parts_of!(self => version, flags, front, record.as_slice());
         VvccShape::show(NAMES, view, &parts, sink)
+    }
+}
+
+impl TakeFields for Vvcc {
+    ghost taken = { declared_taken ⟦<Vvcc as DeclaredBox>⟧.layout (⟦<VvccShape as TakeShape>⟧.taken NAMES.now) };
+
+    fn take(alloc: Global, object: &mut Object<'_>) -> taken::Result<Vvcc> {
+        take_declared::<Vvcc, VvccShape>(alloc, NAMES, object)
     }
 }
 

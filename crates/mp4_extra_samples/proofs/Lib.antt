@@ -1,1 +1,3 @@
 mod SizeSteps
+mod TakenGroups
+mod TakenSizes

@@ -3,3 +3,6 @@ pub mod ShownGroups
 pub mod ShownAccesses
 pub mod SampleBox
 pub mod SampleBoxLaws
+pub mod TakenSgpd
+pub mod TakenStz2
+pub mod TakenTfra

@@ -1,5 +1,6 @@
 //! The composition to decode box.
 
+ghost use Rattle.mp4_shown.specs.TakenShapes.{declared_taken};
 ghost use Rattle.mp4_extra_samples.specs.declared.cslg.TheConstants.{NAMES};
 ghost use Rattle.mp4_frame.specs.declared.codes.TheConstants as codes;
 ghost use Rattle.mp4_declared.specs.OwnBox.{layout_of};
@@ -8,9 +9,11 @@ ghost use Rattle.std.proofs.Common.{refl, lit<};
 use mp4_declared::SignedTime;
 use mp4_declared::declaring::*;
 use mp4_frame::{Result, codes};
+use mp4_shown::taken::{self, Object, TakeFields, TakeShape, take_declared};
 use mp4_shown::{
     FLAGS, FieldSink, HasFields, NamedShape, ShowShape, VERSION, View, names_of, number,
 };
+use std::alloc::Global;
 
 /// The relation of a track's composition times to its decoding times (`cslg`, ISO/IEC 14496-12, 8.6.1.4). Times are in
 /// the timescale of the media. They have 32 bits in version 0, 64 in version 1.
@@ -94,6 +97,14 @@ impl HasFields for Cslg {
             parts_of!(self => version, flags, composition_to_dts_shift, least_decode_to_display_delta,
             greatest_decode_to_display_delta, composition_start_time, composition_end_time);
         CslgShape::show(NAMES, view, &parts, sink)
+    }
+}
+
+impl TakeFields for Cslg {
+    ghost taken = { declared_taken ⟦<Cslg as DeclaredBox>⟧.layout (⟦<CslgShape as TakeShape>⟧.taken NAMES.now) };
+
+    fn take(alloc: Global, object: &mut Object<'_>) -> taken::Result<Cslg> {
+        take_declared::<Cslg, CslgShape>(alloc, NAMES, object)
     }
 }
 

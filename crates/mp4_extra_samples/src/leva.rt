@@ -1,5 +1,6 @@
 //! The level assignment box.
 
+ghost use Rattle.mp4_shown.specs.TakenShapes.{declared_taken};
 ghost use Rattle.mp4_extra_samples.specs.declared.leva.TheConstants.{NAMES};
 ghost use Rattle.mp4_frame.specs.declared.codes.TheConstants as codes;
 ghost use Rattle.mp4_declared.specs.OwnBox.{layout_of};
@@ -7,9 +8,11 @@ ghost use Rattle.std.proofs.Common.{refl, lit<};
 
 use mp4_declared::declaring::*;
 use mp4_frame::{Result, codes};
+use mp4_shown::taken::{self, Object, TakeFields, TakeShape, take_declared};
 use mp4_shown::{
     FLAGS, FieldSink, HasFields, NamedShape, ShowShape, VERSION, View, names_of, number, run,
 };
+use std::alloc::Global;
 
 /// The levels into which fragments are divided (`leva`, ISO/IEC 14496-12, 8.8.13).
 #[derive(Debug, Drop, PartialEq, Eq)]
@@ -71,6 +74,14 @@ impl HasFields for Leva {
     fn show<K: FieldSink>(&self, view: View, sink: &mut K) -> mp4_shown::Result<()> {
         let parts = parts_of!(self => version, flags, level_count, levels.as_slice());
         LevaShape::show(NAMES, view, &parts, sink)
+    }
+}
+
+impl TakeFields for Leva {
+    ghost taken = { declared_taken ⟦<Leva as DeclaredBox>⟧.layout (⟦<LevaShape as TakeShape>⟧.taken NAMES.now) };
+
+    fn take(alloc: Global, object: &mut Object<'_>) -> taken::Result<Leva> {
+        take_declared::<Leva, LevaShape>(alloc, NAMES, object)
     }
 }
 

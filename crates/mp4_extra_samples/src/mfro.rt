@@ -1,5 +1,6 @@
 //! The movie fragment random access offset box.
 
+ghost use Rattle.mp4_shown.specs.TakenShapes.{declared_taken};
 ghost use Rattle.mp4_extra_samples.specs.declared.mfro.TheConstants.{NAMES};
 ghost use Rattle.mp4_frame.specs.declared.codes.TheConstants as codes;
 ghost use Rattle.std.proofs.Common.{refl, lit<};
@@ -7,9 +8,11 @@ ghost use Rattle.mp4_declared.specs.OwnBox.{layout_of};
 
 use mp4_declared::{Declared, DeclaredBox, Full, Last, Shape, ShapeVisitor, U32, box_of, parts_of};
 use mp4_frame::{Result, TryClone, codes};
+use mp4_shown::taken::{self, Object, TakeFields, TakeShape, take_declared};
 use mp4_shown::{
     FLAGS, FieldSink, HasFields, NamedShape, ShowShape, VERSION, View, names_of, number,
 };
+use std::alloc::Global;
 
 /// The size of the enclosing `mfra` (`mfro`, ISO/IEC 14496-12, 8.8.11). The box is the last of the `mfra`, which is the
 /// last of the file, so that a reader finds the `mfra` from the end of the file.
@@ -61,6 +64,14 @@ impl HasFields for Mfro {
     fn show<K: FieldSink>(&self, view: View, sink: &mut K) -> mp4_shown::Result<()> {
         let parts = parts_of!(self => version, flags, parent_size);
         MfroShape::show(NAMES, view, &parts, sink)
+    }
+}
+
+impl TakeFields for Mfro {
+    ghost taken = { declared_taken ⟦<Mfro as DeclaredBox>⟧.layout (⟦<MfroShape as TakeShape>⟧.taken NAMES.now) };
+
+    fn take(alloc: Global, object: &mut Object<'_>) -> taken::Result<Mfro> {
+        take_declared::<Mfro, MfroShape>(alloc, NAMES, object)
     }
 }
 

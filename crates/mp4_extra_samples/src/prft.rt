@@ -1,5 +1,6 @@
 //! The producer reference time box.
 
+ghost use Rattle.mp4_shown.specs.TakenShapes.{declared_taken};
 ghost use Rattle.mp4_extra_samples.specs.declared.prft.TheConstants.{NAMES};
 ghost use Rattle.mp4_frame.specs.declared.codes.TheConstants as codes;
 ghost use Rattle.std.proofs.Common.{refl, lit<};
@@ -9,9 +10,11 @@ use mp4_declared::{
     Declared, DeclaredBox, Full, Last, Shape, ShapeVisitor, Time, U32, U64, box_of, parts_of,
 };
 use mp4_frame::{Result, TryClone, codes};
+use mp4_shown::taken::{self, Object, TakeFields, TakeShape, take_declared};
 use mp4_shown::{
     FLAGS, FieldSink, HasFields, NamedShape, ShowShape, VERSION, View, names_of, number,
 };
+use std::alloc::Global;
 
 /// The time at which a producer made a part of the media (`prft`, ISO/IEC 14496-12, 8.16.5).
 #[derive(Clone, Copy, Debug, Drop, PartialEq, Eq)]
@@ -75,6 +78,14 @@ impl HasFields for Prft {
         let parts = parts_of!(self => version, flags, reference_track_id, ntp_timestamp,
             media_time);
         PrftShape::show(NAMES, view, &parts, sink)
+    }
+}
+
+impl TakeFields for Prft {
+    ghost taken = { declared_taken ⟦<Prft as DeclaredBox>⟧.layout (⟦<PrftShape as TakeShape>⟧.taken NAMES.now) };
+
+    fn take(alloc: Global, object: &mut Object<'_>) -> taken::Result<Prft> {
+        take_declared::<Prft, PrftShape>(alloc, NAMES, object)
     }
 }
 

@@ -1,5 +1,6 @@
 //! The sample auxiliary information offsets box.
 
+ghost use Rattle.mp4_shown.specs.TakenShapes.{declared_taken};
 ghost use Rattle.mp4_extra_samples.specs.declared.saio.TheConstants.{LONG, NAMES, SHORT};
 ghost use Rattle.mp4_frame.specs.declared.codes.TheConstants as codes;
 ghost use Rattle.std.proofs.Common.{refl, lit<};
@@ -11,10 +12,12 @@ use mp4_declared::{
     ShapeVisitor, U32, box_of, entry_of, numbers_of, parts_of,
 };
 use mp4_frame::{Entries, FourCC, Result, TryClone, codes};
+use mp4_shown::taken::{self, Object, TakeFields, TakeShape, take_declared};
 use mp4_shown::{
     FieldSink, HasFields, Meaning, NamedShape, NumberName, ShowShape, VERSION, View, list,
     names_of, number,
 };
+use std::alloc::Global;
 
 /// The start of a piece of auxiliary information.
 #[derive(Clone, Copy, Debug, Default, PartialEq, Eq)]
@@ -141,6 +144,14 @@ impl HasFields for Saio {
         let parts = parts_of!(self => version, flags, aux_info_type, aux_info_type_parameter,
             offsets.as_slice());
         SaioShape::show(NAMES, view, &parts, sink)
+    }
+}
+
+impl TakeFields for Saio {
+    ghost taken = { declared_taken ⟦<Saio as DeclaredBox>⟧.layout (⟦<SaioShape as TakeShape>⟧.taken NAMES.now) };
+
+    fn take(alloc: Global, object: &mut Object<'_>) -> taken::Result<Saio> {
+        take_declared::<Saio, SaioShape>(alloc, NAMES, object)
     }
 }
 

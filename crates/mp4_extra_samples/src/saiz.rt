@@ -1,5 +1,6 @@
 //! The sample auxiliary information sizes box.
 
+ghost use Rattle.mp4_shown.specs.TakenShapes.{declared_taken};
 ghost use Rattle.mp4_extra_samples.specs.declared.saiz.TheConstants.{NAMES};
 ghost use Rattle.mp4_frame.specs.declared.codes.TheConstants as codes;
 ghost use Rattle.std.proofs.Common.{refl, lit<};
@@ -10,9 +11,11 @@ use mp4_declared::{
     box_of, parts_of,
 };
 use mp4_frame::{Entries, FourCC, Result, TryClone, codes};
+use mp4_shown::taken::{self, Object, TakeFields, TakeShape, take_declared};
 use mp4_shown::{
     FieldSink, HasFields, Meaning, NamedShape, ShowShape, VERSION, View, names_of, number, run,
 };
+use std::alloc::Global;
 
 /// The sizes of the samples' auxiliary information (`saiz`, ISO/IEC 14496-12, 8.7.8). A `saio` has its offsets.
 #[derive(Debug, Drop, PartialEq, Eq)]
@@ -97,6 +100,14 @@ impl HasFields for Saiz {
         let parts = parts_of!(self => version, flags, aux_info_type, aux_info_type_parameter,
             default_sample_info_size, sample_count, sample_info_sizes.as_slice());
         SaizShape::show(NAMES, view, &parts, sink)
+    }
+}
+
+impl TakeFields for Saiz {
+    ghost taken = { declared_taken ⟦<Saiz as DeclaredBox>⟧.layout (⟦<SaizShape as TakeShape>⟧.taken NAMES.now) };
+
+    fn take(alloc: Global, object: &mut Object<'_>) -> taken::Result<Saiz> {
+        take_declared::<Saiz, SaizShape>(alloc, NAMES, object)
     }
 }
 

@@ -1,5 +1,6 @@
 //! The sample to group box.
 
+ghost use Rattle.mp4_shown.specs.TakenShapes.{declared_taken};
 ghost use Rattle.mp4_extra_samples.specs.declared.sbgp.TheConstants.{NAMES, WIDTHS};
 ghost use Rattle.mp4_frame.specs.declared.codes.TheConstants as codes;
 ghost use Rattle.std.proofs.Common.{refl, lit<};
@@ -11,10 +12,12 @@ use mp4_declared::{
     ShapeVisitor, U32, box_of, entry_of, numbers_of, parts_of,
 };
 use mp4_frame::{Entries, FourCC, Result, TryClone, codes};
+use mp4_shown::taken::{self, Object, TakeFields, TakeShape, take_declared};
 use mp4_shown::{
     FLAGS, FieldSink, HasFields, NamedShape, NumberName, ShowShape, VERSION, View, list, names_of,
     number,
 };
+use std::alloc::Global;
 
 /// A run of consecutive samples of one group.
 #[derive(Clone, Copy, Debug, Default, PartialEq, Eq)]
@@ -121,6 +124,14 @@ impl HasFields for Sbgp {
         let parts = parts_of!(self => version, flags, grouping_type, grouping_type_parameter,
             entries.as_slice());
         SbgpShape::show(NAMES, view, &parts, sink)
+    }
+}
+
+impl TakeFields for Sbgp {
+    ghost taken = { declared_taken ⟦<Sbgp as DeclaredBox>⟧.layout (⟦<SbgpShape as TakeShape>⟧.taken NAMES.now) };
+
+    fn take(alloc: Global, object: &mut Object<'_>) -> taken::Result<Sbgp> {
+        take_declared::<Sbgp, SbgpShape>(alloc, NAMES, object)
     }
 }
 

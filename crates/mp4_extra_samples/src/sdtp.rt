@@ -1,5 +1,6 @@
 //! The independent and disposable samples box.
 
+ghost use Rattle.mp4_shown.specs.TakenShapes.{declared_taken};
 ghost use Rattle.mp4_extra_samples.specs.declared.sdtp.TheConstants.{NAMES, WIDTHS};
 ghost use Rattle.mp4_frame.specs.declared.codes.TheConstants as codes;
 ghost use Rattle.std.proofs.Common.{refl, lit<};
@@ -11,10 +12,12 @@ use mp4_declared::{
     numbers_of, parts_of,
 };
 use mp4_frame::{Entries, Result, TryClone, codes};
+use mp4_shown::taken::{self, Object, TakeFields, TakeShape, take_declared};
 use mp4_shown::{
     FLAGS, FieldSink, HasFields, NamedShape, NumberName, ShowShape, VERSION, View, list, names_of,
     number,
 };
+use std::alloc::Global;
 
 /// The dependencies of a sample on others. Every field is 0 if the answer is unknown.
 #[derive(Clone, Copy, Debug, Default, PartialEq, Eq)]
@@ -115,6 +118,14 @@ impl HasFields for Sdtp {
     fn show<K: FieldSink>(&self, view: View, sink: &mut K) -> mp4_shown::Result<()> {
         let parts = parts_of!(self => version, flags, entries.as_slice());
         SdtpShape::show(NAMES, view, &parts, sink)
+    }
+}
+
+impl TakeFields for Sdtp {
+    ghost taken = { declared_taken ⟦<Sdtp as DeclaredBox>⟧.layout (⟦<SdtpShape as TakeShape>⟧.taken NAMES.now) };
+
+    fn take(alloc: Global, object: &mut Object<'_>) -> taken::Result<Sdtp> {
+        take_declared::<Sdtp, SdtpShape>(alloc, NAMES, object)
     }
 }
 

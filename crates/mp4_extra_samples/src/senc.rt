@@ -1,5 +1,6 @@
 //! The sample encryption box.
 
+ghost use Rattle.mp4_shown.specs.TakenShapes.{declared_taken};
 ghost use Rattle.mp4_extra_samples.specs.declared.senc.TheConstants.{NAMES};
 ghost use Rattle.mp4_frame.specs.declared.codes.TheConstants as codes;
 ghost use Rattle.std.proofs.Common.{refl, lit<};
@@ -9,9 +10,11 @@ use mp4_declared::{
     Declared, DeclaredBox, Full, Last, Rest, Shape, ShapeVisitor, U32, box_of, parts_of,
 };
 use mp4_frame::{Entries, Result, TryClone, codes};
+use mp4_shown::taken::{self, Object, TakeFields, TakeShape, take_declared};
 use mp4_shown::{
     FieldSink, HasFields, Meaning, NamedShape, ShowShape, VERSION, View, names_of, number, run,
 };
+use std::alloc::Global;
 
 /// The encryption parameters of each sample (`senc`, ISO/IEC 23001-7, 7.2.1).
 #[derive(Debug, Drop, PartialEq, Eq)]
@@ -77,6 +80,14 @@ impl HasFields for Senc {
     fn show<K: FieldSink>(&self, view: View, sink: &mut K) -> mp4_shown::Result<()> {
         let parts = parts_of!(self => version, flags, sample_count, samples.as_slice());
         SencShape::show(NAMES, view, &parts, sink)
+    }
+}
+
+impl TakeFields for Senc {
+    ghost taken = { declared_taken ⟦<Senc as DeclaredBox>⟧.layout (⟦<SencShape as TakeShape>⟧.taken NAMES.now) };
+
+    fn take(alloc: Global, object: &mut Object<'_>) -> taken::Result<Senc> {
+        take_declared::<Senc, SencShape>(alloc, NAMES, object)
     }
 }
 

@@ -16,6 +16,8 @@ ghost use Rattle.mp4_shown.specs.Numbers.{shown_number, shown_numbers};
 ghost use Rattle.mp4_extra_samples.specs.declared.sgpd.TheConstants.{DESCRIPTION_LENGTH, ENCRYPTION};
 ghost use Rattle.mp4_declared.specs.OwnBox.{layout_of};
 
+mod taken;
+
 use mp4_declared::{
     Code, Declared, DeclaredBox, FromVersion, Full, If, Last, Rest, Shape, ShapeVisitor, U32,
     box_of, parts_of,

@@ -1,5 +1,6 @@
 //! The segment index box.
 
+ghost use Rattle.mp4_shown.specs.TakenShapes.{declared_taken};
 ghost use Rattle.mp4_extra_samples.specs.declared.sidx.TheConstants.{NAMES, WIDTHS};
 ghost use Rattle.mp4_frame.specs.declared.codes.TheConstants as codes;
 ghost use Rattle.mp4_declared.specs.OwnBox.{layout_of};
@@ -8,10 +9,12 @@ ghost use Rattle.std.proofs.Common.{refl, lit<};
 
 use mp4_declared::declaring::*;
 use mp4_frame::{Result, codes};
+use mp4_shown::taken::{self, Object, TakeFields, TakeShape, take_declared};
 use mp4_shown::{
     FLAGS, FieldSink, HasFields, NamedShape, NumberName, ShowShape, VERSION, View, list, names_of,
     number,
 };
+use std::alloc::Global;
 
 /// A reference of a segment index to a part of the media or to another index.
 #[derive(Clone, Copy, Debug, Default, PartialEq, Eq)]
@@ -138,6 +141,14 @@ impl HasFields for Sidx {
         let parts = parts_of!(self => version, flags, reference_id, timescale,
             earliest_presentation_time, first_offset, entries.as_slice());
         SidxShape::show(NAMES, view, &parts, sink)
+    }
+}
+
+impl TakeFields for Sidx {
+    ghost taken = { declared_taken ⟦<Sidx as DeclaredBox>⟧.layout (⟦<SidxShape as TakeShape>⟧.taken NAMES.now) };
+
+    fn take(alloc: Global, object: &mut Object<'_>) -> taken::Result<Sidx> {
+        take_declared::<Sidx, SidxShape>(alloc, NAMES, object)
     }
 }
 

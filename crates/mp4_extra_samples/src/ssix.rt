@@ -1,5 +1,7 @@
 //! The subsegment index box.
 
+ghost use Rattle.mp4_shown.specs.TakenShapes.{entry_made};
+ghost use Rattle.mp4_shown.specs.TakenShapes.{declared_taken};
 ghost use Rattle.mp4_extra_samples.specs.declared.ssix.TheConstants.{NAMES, SUBSEGMENT, WIDTHS};
 ghost use Rattle.mp4_frame.specs.declared.codes.TheConstants as codes;
 ghost use Rattle.mp4_declared.specs.DeclaredEntry.{exact_layout_of};
@@ -9,13 +11,15 @@ ghost use Rattle.mp4_shown.specs.Lists.{entry_of};
 ghost use Rattle.mp4_shown.specs.Members.{whole_entry};
 ghost use Rattle.std.proofs.Common.{refl, lit<};
 
-use mp4_declared::clone_each;
 use mp4_declared::declaring::*;
+use mp4_declared::{Context, clone_each};
 use mp4_frame::{Result, codes};
+use mp4_shown::taken::{self, Object, TakeEntry, TakeFields, TakeShape, take_declared, take_entry};
 use mp4_shown::{
     FLAGS, FieldSink, HasFields, NamedShape, NumberName, ShowShape, ShownEntry, VERSION, View,
     list, names_of, number,
 };
+use std::alloc::Global;
 
 /// A range of the bytes of a subsegment, which follows the range before it.
 #[derive(Clone, Copy, Debug, Default, PartialEq, Eq)]
@@ -107,6 +111,19 @@ impl ShownEntry for SsixSubsegment {
     }
 }
 
+impl TakeEntry for SsixSubsegment {
+    ghost taken = { λ c j. entry_made ⟦<SsixSubsegment as DeclaredEntry>⟧.layout.value
+        (⟦<SsixSubsegmentShape as TakeShape>⟧.taken SUBSEGMENT.now c) j };
+
+    fn take(
+        alloc: Global,
+        context: Context,
+        value: json::Value<'_>,
+    ) -> taken::Result<SsixSubsegment> {
+        take_entry::<SsixSubsegment, SsixSubsegmentShape>(alloc, SUBSEGMENT, context, value)
+    }
+}
+
 impl TryClone for SsixSubsegment {
     fn try_clone(&self) -> Result<SsixSubsegment> {
         Ok(SsixSubsegment {
@@ -169,6 +186,14 @@ impl HasFields for Ssix {
     fn show<K: FieldSink>(&self, view: View, sink: &mut K) -> mp4_shown::Result<()> {
         let parts = parts_of!(self => version, flags, subsegments.as_slice());
         SsixShape::show(NAMES, view, &parts, sink)
+    }
+}
+
+impl TakeFields for Ssix {
+    ghost taken = { declared_taken ⟦<Ssix as DeclaredBox>⟧.layout (⟦<SsixShape as TakeShape>⟧.taken NAMES.now) };
+
+    fn take(alloc: Global, object: &mut Object<'_>) -> taken::Result<Ssix> {
+        take_declared::<Ssix, SsixShape>(alloc, NAMES, object)
     }
 }
 

@@ -1,5 +1,6 @@
 //! The segment type box.
 
+ghost use Rattle.mp4_shown.specs.TakenShapes.{declared_taken};
 ghost use Rattle.mp4_extra_samples.specs.declared.styp.TheConstants.{NAMES};
 ghost use Rattle.mp4_frame.specs.declared.codes.TheConstants as codes;
 ghost use Rattle.std.proofs.Common.{refl, lit<};
@@ -9,7 +10,9 @@ use mp4_declared::{
     Code, Codes, Declared, DeclaredBox, Last, Shape, ShapeVisitor, U32, box_of, parts_of,
 };
 use mp4_frame::{Entries, FourCC, Result, TryClone, codes};
+use mp4_shown::taken::{self, Object, TakeFields, TakeShape, take_declared};
 use mp4_shown::{FieldSink, HasFields, NamedShape, ShowShape, View, names_of, number};
+use std::alloc::Global;
 
 /// The specifications that a segment conforms to (`styp`, ISO/IEC 14496-12, 8.16.2). The fields are those of an `ftyp`.
 #[derive(Debug, Drop, PartialEq, Eq)]
@@ -65,6 +68,14 @@ impl HasFields for Styp {
     fn show<K: FieldSink>(&self, view: View, sink: &mut K) -> mp4_shown::Result<()> {
         let parts = parts_of!(self => major_brand, minor_version, compatible_brands.as_slice());
         StypShape::show(NAMES, view, &parts, sink)
+    }
+}
+
+impl TakeFields for Styp {
+    ghost taken = { declared_taken ⟦<Styp as DeclaredBox>⟧.layout (⟦<StypShape as TakeShape>⟧.taken NAMES.now) };
+
+    fn take(alloc: Global, object: &mut Object<'_>) -> taken::Result<Styp> {
+        take_declared::<Styp, StypShape>(alloc, NAMES, object)
     }
 }
 

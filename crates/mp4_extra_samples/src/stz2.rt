@@ -12,6 +12,8 @@ ghost use Rattle.std.proofs.Common.{refl, lit<};
 ghost use Rattle.std.specs.Prelude.{◌≡◌, ◌≤◌, ◌^◌, OnOk, min};
 ghost use Rattle.mp4_declared.specs.OwnBox.{layout_of};
 
+mod taken;
+
 use mp4_declared::{
     Declared, DeclaredBox, Full, Last, Reserved, Rest, Shape, ShapeVisitor, U8, U32, box_of,
     parts_of,

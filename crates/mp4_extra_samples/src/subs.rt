@@ -1,5 +1,7 @@
 //! The sub-sample information box.
 
+ghost use Rattle.mp4_shown.specs.TakenShapes.{entry_made};
+ghost use Rattle.mp4_shown.specs.TakenShapes.{declared_taken};
 ghost use Rattle.mp4_extra_samples.specs.declared.subs.TheConstants.{LONG, NAMES, SAMPLE, SHORT};
 ghost use Rattle.mp4_frame.specs.declared.codes.TheConstants as codes;
 ghost use Rattle.mp4_shown.specs.Lists.{entry_of};
@@ -11,15 +13,17 @@ ghost use Rattle.mp4_declared.specs.Layout.{packed, fields_of};
 ghost use Rattle.mp4_declared.specs.DeclaredEntryLaws.{some_first};
 
 use mp4_declared::{
-    Declared, DeclaredBox, DeclaredEntry, Each, EntryLayout, EntryVisitor, Full, Last,
+    Context, Declared, DeclaredBox, DeclaredEntry, Each, EntryLayout, EntryVisitor, Full, Last,
     ListByVersion, Shape, ShapeVisitor, U16, U32, box_of, clone_each, entry_of, numbers_of,
     parts_of,
 };
 use mp4_frame::{Entries, Result, TryClone, codes};
+use mp4_shown::taken::{self, Object, TakeEntry, TakeFields, TakeShape, take_declared, take_entry};
 use mp4_shown::{
     FLAGS, FieldSink, HasFields, NamedShape, NumberName, ShowShape, ShownEntry, VERSION, View,
     list, names_of, number,
 };
+use std::alloc::Global;
 
 /// A part of a sample: some of its consecutive bytes.
 #[derive(Clone, Copy, Debug, Default, PartialEq, Eq)]
@@ -147,6 +151,15 @@ impl ShownEntry for SubsEntry {
     }
 }
 
+impl TakeEntry for SubsEntry {
+    ghost taken = { λ c j. entry_made ⟦<SubsEntry as DeclaredEntry>⟧.layout.value
+        (⟦<SubsEntryShape as TakeShape>⟧.taken SAMPLE.now c) j };
+
+    fn take(alloc: Global, context: Context, value: json::Value<'_>) -> taken::Result<SubsEntry> {
+        take_entry::<SubsEntry, SubsEntryShape>(alloc, SAMPLE, context, value)
+    }
+}
+
 impl TryClone for SubsEntry {
     fn try_clone(&self) -> Result<SubsEntry> {
         let subsamples = self.subsamples.try_clone()?;
@@ -210,6 +223,14 @@ impl HasFields for Subs {
     fn show<K: FieldSink>(&self, view: View, sink: &mut K) -> mp4_shown::Result<()> {
         let parts = parts_of!(self => version, flags, entries.as_slice());
         SubsShape::show(NAMES, view, &parts, sink)
+    }
+}
+
+impl TakeFields for Subs {
+    ghost taken = { declared_taken ⟦<Subs as DeclaredBox>⟧.layout (⟦<SubsShape as TakeShape>⟧.taken NAMES.now) };
+
+    fn take(alloc: Global, object: &mut Object<'_>) -> taken::Result<Subs> {
+        take_declared::<Subs, SubsShape>(alloc, NAMES, object)
     }
 }
 

@@ -10,6 +10,8 @@ ghost use Rattle.std.specs.Prelude.{◌≡◌, ◌≤◌, length};
 ghost use Rattle.mp4_declared.specs.OwnBox.{layout_of};
 ghost use Rattle.mp4_declared.specs.Layout.{packed, fields_of};
 
+mod taken;
+
 use mp4_declared::{
     Bits, Declared, DeclaredBox, EntryLayout, Full, Last, Rest, Shape, ShapeVisitor, U32, box_of,
     entry_of, numbers_of, parts_of,

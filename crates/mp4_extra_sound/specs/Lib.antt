@@ -10,3 +10,8 @@ pub mod AudioConfig
 pub mod ShownDescriptors
 pub mod SoundBox
 pub mod SoundBoxLaws
+pub mod TakenEsds
+pub mod TakenTx3g
+pub mod TakenDec3
+pub mod TakenDfla
+pub mod TakenDops

@@ -28,6 +28,7 @@ entry_of types.SthdBox = entry codes.STHD boxes.SthdBox
 entry_of types.StppBox = entry codes.STPP boxes.StppBox
 entry_of types.TcmiBox = entry codes.TCMI boxes.TcmiBox
 entry_of types.TextBox = entry codes.TEXT boxes.TextBox
+entry_of types.Tx3gBox = entry codes.TX3G boxes.Tx3gBox
 entry_of types.WvttBox = entry codes.WVTT boxes.WvttBox
 
 -- the type of the boxes of a code
@@ -54,6 +55,7 @@ opened (boxes.SthdBox fields) = (types.SthdBox, fields)
 opened (boxes.StppBox fields) = (types.StppBox, fields)
 opened (boxes.TcmiBox fields) = (types.TcmiBox, fields)
 opened (boxes.TextBox fields) = (types.TextBox, fields)
+opened (boxes.Tx3gBox fields) = (types.Tx3gBox, fields)
 opened (boxes.WvttBox fields) = (types.WvttBox, fields)
 
 abbrev pub sound_types : Catalogue SoundType SoundBox

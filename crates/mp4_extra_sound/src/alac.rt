@@ -1,5 +1,6 @@
 //! The Apple Lossless specific box.
 
+ghost use Rattle.mp4_shown.specs.TakenShapes.{declared_taken};
 ghost use Rattle.mp4_extra_sound.specs.declared.alac.TheConstants.{NAMES, WIDTHS};
 ghost use Rattle.mp4_frame.specs.declared.codes.TheConstants as codes;
 ghost use Rattle.mp4_declared.specs.OwnBox.{layout_of};
@@ -8,10 +9,12 @@ ghost use Rattle.std.proofs.Common.{refl, lit<};
 
 use mp4_declared::declaring::*;
 use mp4_frame::{Result, codes};
+use mp4_shown::taken::{self, Object, TakeFields, TakeShape, take_declared};
 use mp4_shown::{
     FLAGS, FieldSink, HasFields, NamedShape, NumberName, ShowShape, VERSION, View, names_of,
     number, run,
 };
+use std::alloc::Global;
 
 /// The configuration of an Apple Lossless decoder.
 #[derive(Clone, Copy, Debug, Default, PartialEq, Eq)]
@@ -138,6 +141,14 @@ impl HasFields for Alac {
     fn show<K: FieldSink>(&self, view: View, sink: &mut K) -> mp4_shown::Result<()> {
         let parts = parts_of!(self => version, flags, config, channel_layout_info.as_slice());
         AlacShape::show(NAMES, view, &parts, sink)
+    }
+}
+
+impl TakeFields for Alac {
+    ghost taken = { declared_taken ⟦<Alac as DeclaredBox>⟧.layout (⟦<AlacShape as TakeShape>⟧.taken NAMES.now) };
+
+    fn take(alloc: Global, object: &mut Object<'_>) -> taken::Result<Alac> {
+        take_declared::<Alac, AlacShape>(alloc, NAMES, object)
     }
 }
 

@@ -59,10 +59,10 @@ const CHANNEL_CONFIGURATIONS: &[Meaning] = &[
 ];
 
 /// The name of the configuration.
-const AUDIO_NAME: &str = "AudioSpecificConfig";
+pub(crate) const AUDIO_NAME: &str = "AudioSpecificConfig";
 
 /// The names of its numbers. A frequency of 0 is unknown, and is left out.
-const AUDIO: &[NumberName] = &[
+pub(crate) const AUDIO: &[NumberName] = &[
     number!("audioObjectType", Named, AUDIO_OBJECT_TYPES),
     number!("samplingFrequencyIndex"),
     number!("samplingFrequency", Reserved(0)),
@@ -70,7 +70,7 @@ const AUDIO: &[NumberName] = &[
 ];
 
 /// The names of the numbers of an extension. What isn't signalled is left out.
-const EXTENSION: &[NumberName] = &[
+pub(crate) const EXTENSION: &[NumberName] = &[
     number!("extensionAudioObjectType", Reserved(0)),
     number!("sbrPresentFlag", Reserved(2)),
     number!("psPresentFlag", Reserved(2)),
@@ -327,7 +327,7 @@ fn config_of(bytes: &[u8], kind: u64, rate: (u64, u64, usize)) -> Option<([u64; 
 
 /// Returns the numbers of the configuration in `bytes` and those of its extension, or `None` if the bytes are too few.
 #[tactic(auto, unfolding(crate::specs::AudioConfig::audio_config))]
-fn audio_config(bytes: &[u8]) -> Option<([u64; 4], [u64; 5])>
+pub(crate) fn audio_config(bytes: &[u8]) -> Option<([u64; 4], [u64; 5])>
     ensures { result ≡ audio_config bytes.now }
 {
     let (kind, next) = object_type(bytes, 0);

@@ -1,5 +1,6 @@
 //! The audio channel layout box.
 
+ghost use Rattle.mp4_shown.specs.TakenShapes.{declared_taken};
 ghost use Rattle.mp4_extra_sound.specs.ShownChannels.{shown_by, whole_by};
 ghost use Rattle.mp4_extra_sound.specs.declared.chan.TheConstants.{NAMES, WIDTHS};
 ghost use Rattle.mp4_frame.specs.declared.codes.TheConstants as codes;
@@ -11,10 +12,12 @@ ghost use Rattle.std.specs.Prelude.{OnOk};
 
 use mp4_declared::declaring::*;
 use mp4_frame::{Result, codes};
+use mp4_shown::taken::{self, Object, TakeFields, TakeShape, take_declared};
 use mp4_shown::{
     FLAGS, FieldSink, HasFields, Meaning, NamedShape, NumberName, ShowShape, VERSION, View, list,
     names_of, number,
 };
+use std::alloc::Global;
 
 /// A channel of a sound.
 #[derive(Clone, Copy, Debug, Default, PartialEq, Eq)]
@@ -240,6 +243,14 @@ impl HasFields for Chan {
 
     fn show<K: FieldSink>(&self, view: View, sink: &mut K) -> mp4_shown::Result<()> {
         show_by(NAMES, view, self, sink)
+    }
+}
+
+impl TakeFields for Chan {
+    ghost taken = { declared_taken ⟦<Chan as DeclaredBox>⟧.layout (⟦<ChanShape as TakeShape>⟧.taken NAMES.now) };
+
+    fn take(alloc: Global, object: &mut Object<'_>) -> taken::Result<Chan> {
+        take_declared::<Chan, ChanShape>(alloc, NAMES, object)
     }
 }
 

@@ -1,5 +1,6 @@
 //! The channel layout box.
 
+ghost use Rattle.mp4_shown.specs.TakenShapes.{declared_taken};
 ghost use Rattle.mp4_extra_sound.specs.declared.chnl.TheConstants.{NAMES, WIDTHS};
 ghost use Rattle.mp4_frame.specs.declared.codes.TheConstants as codes;
 ghost use Rattle.mp4_declared.specs.OwnBox.{layout_of};
@@ -9,10 +10,12 @@ ghost use Rattle.std.proofs.Common.{refl, lit<};
 use mp4_declared::VersionZero;
 use mp4_declared::declaring::*;
 use mp4_frame::{Result, codes};
+use mp4_shown::taken::{self, Object, TakeFields, TakeShape, take_declared};
 use mp4_shown::{
     FLAGS, FieldSink, HasFields, Meaning, NamedShape, NumberName, ShowShape, VERSION, View,
     names_of, number, run,
 };
+use std::alloc::Global;
 
 /// The structure of a sound in version 1.
 #[derive(Clone, Copy, Debug, Default, PartialEq, Eq)]
@@ -131,6 +134,14 @@ impl HasFields for Chnl {
         let parts =
             parts_of!(self => version, flags, stream_structure, structure, layout.as_slice());
         ChnlShape::show(NAMES, view, &parts, sink)
+    }
+}
+
+impl TakeFields for Chnl {
+    ghost taken = { declared_taken ⟦<Chnl as DeclaredBox>⟧.layout (⟦<ChnlShape as TakeShape>⟧.taken NAMES.now) };
+
+    fn take(alloc: Global, object: &mut Object<'_>) -> taken::Result<Chnl> {
+        take_declared::<Chnl, ChnlShape>(alloc, NAMES, object)
     }
 }
 

@@ -1,5 +1,6 @@
 //! The AC-3 specific box.
 
+ghost use Rattle.mp4_shown.specs.TakenShapes.{declared_taken};
 ghost use Rattle.mp4_extra_sound.specs.declared.dac3.TheConstants.{WIDTHS, NAMES};
 ghost use Rattle.mp4_frame.specs.declared.codes.TheConstants as codes;
 ghost use Rattle.std.proofs.Common.{refl, lit<};
@@ -11,7 +12,9 @@ use mp4_declared::{
     numbers_of, parts_of,
 };
 use mp4_frame::{Result, TryClone, codes};
+use mp4_shown::taken::{self, Object, TakeFields, TakeShape, take_declared};
 use mp4_shown::{FieldSink, HasFields, NamedShape, NumberName, ShowShape, View, names_of, number};
+use std::alloc::Global;
 
 /// The fields of a `dac3`. The names are those of the AC-3 bit stream.
 #[derive(Clone, Copy, Debug, Default, PartialEq, Eq)]
@@ -111,6 +114,14 @@ impl HasFields for Dac3 {
 
     fn show<K: FieldSink>(&self, view: View, sink: &mut K) -> mp4_shown::Result<()> {
         Dac3Shape::show(NAMES, view, &parts_of!(self => config), sink)
+    }
+}
+
+impl TakeFields for Dac3 {
+    ghost taken = { declared_taken ⟦<Dac3 as DeclaredBox>⟧.layout (⟦<Dac3Shape as TakeShape>⟧.taken NAMES.now) };
+
+    fn take(alloc: Global, object: &mut Object<'_>) -> taken::Result<Dac3> {
+        take_declared::<Dac3, Dac3Shape>(alloc, NAMES, object)
     }
 }
 

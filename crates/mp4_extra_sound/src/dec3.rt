@@ -10,6 +10,8 @@ ghost use Rattle.mp4_declared.specs.Bits.{split};
 ghost use Rattle.mp4_declared.specs.OwnBox.{layout_of};
 ghost use Rattle.mp4_declared.specs.Layout.{packed, fields_of};
 
+mod taken;
+
 use mp4_declared::{
     Bits, Declared, DeclaredBox, EntryLayout, Last, Rest, Shape, ShapeVisitor, box_of, entry_of,
     numbers_of, parts_of,

@@ -14,6 +14,8 @@ ghost use Rattle.mp4_declared.specs.OwnBox.{layout_of};
 ghost use Rattle.mp4_declared.specs.DeclaredEntry.{exact_layout_of};
 ghost use Rattle.mp4_declared.specs.Layout.{packed, fields_of};
 
+mod taken;
+
 use mp4_declared::{
     Bits, Bytes, Count, Declared, DeclaredBox, DeclaredEntry, EachToEnd, EntryLayout, EntryVisitor,
     Full, Last, Shape, ShapeVisitor, box_of, clone_each, entry_of, numbers_of, parts_of,

@@ -8,6 +8,8 @@ ghost use Rattle.mp4_shown.specs.Runs.{seen_bytes};
 ghost use Rattle.std.proofs.Common.{refl, lit<};
 ghost use Rattle.mp4_declared.specs.OwnBox.{layout_of};
 
+mod taken;
+
 use mp4_declared::{
     Declared, DeclaredBox, I16, Last, Rest, Shape, ShapeVisitor, U8, U16, U32, box_of, parts_of,
 };

@@ -1,5 +1,6 @@
 //! The endian box.
 
+ghost use Rattle.mp4_shown.specs.TakenShapes.{declared_taken};
 ghost use Rattle.mp4_extra_sound.specs.declared.enda.TheConstants.{NAMES};
 ghost use Rattle.mp4_frame.specs.declared.codes.TheConstants as codes;
 ghost use Rattle.mp4_declared.specs.OwnBox.{layout_of};
@@ -7,7 +8,9 @@ ghost use Rattle.std.proofs.Common.{refl, lit<};
 
 use mp4_declared::declaring::*;
 use mp4_frame::{Result, codes};
+use mp4_shown::taken::{self, Object, TakeFields, TakeShape, take_declared};
 use mp4_shown::{FieldSink, HasFields, Meaning, NamedShape, ShowShape, View, names_of, number};
+use std::alloc::Global;
 
 /// The order of the bytes of a sound's samples (`enda`, QuickTime File Format, "Endian atom").
 #[derive(Clone, Copy, Debug, Drop, PartialEq, Eq)]
@@ -62,6 +65,14 @@ impl HasFields for Enda {
     fn show<K: FieldSink>(&self, view: View, sink: &mut K) -> mp4_shown::Result<()> {
         let parts = parts_of!(self => little_endian);
         EndaShape::show(NAMES, view, &parts, sink)
+    }
+}
+
+impl TakeFields for Enda {
+    ghost taken = { declared_taken ⟦<Enda as DeclaredBox>⟧.layout (⟦<EndaShape as TakeShape>⟧.taken NAMES.now) };
+
+    fn take(alloc: Global, object: &mut Object<'_>) -> taken::Result<Enda> {
+        take_declared::<Enda, EndaShape>(alloc, NAMES, object)
     }
 }
 

@@ -16,6 +16,8 @@ ghost use Rattle.mp4_declared.specs.OwnBox.{layout_of};
 ghost use Rattle.mp4_declared.specs.DeclaredEntry.{exact_layout_of};
 ghost use Rattle.mp4_declared.specs.Layout.{packed, fields_of};
 
+mod taken;
+
 use crate::audio_config::AudioShown;
 use crate::descriptors::{DescriptorTag, Expandable, Tagged};
 use mp4_declared::{

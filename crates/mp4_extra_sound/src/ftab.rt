@@ -1,5 +1,7 @@
 //! The font table box.
 
+ghost use Rattle.mp4_shown.specs.TakenShapes.{entry_made};
+ghost use Rattle.mp4_shown.specs.TakenShapes.{declared_taken};
 ghost use Rattle.mp4_extra_sound.specs.declared.ftab.TheConstants.{FONT, FTAB, NAMES};
 ghost use Rattle.mp4_shown.specs.Lists.{entry_of};
 ghost use Rattle.mp4_shown.specs.Members.{whole_entry};
@@ -8,13 +10,15 @@ ghost use Rattle.mp4_declared.specs.OwnBox.{layout_of};
 ghost use Rattle.mp4_declared.specs.DeclaredEntry.{exact_layout_of};
 
 use mp4_declared::{
-    Bytes, Declared, DeclaredBox, DeclaredEntry, Each, EntryVisitor, Last, Shape, ShapeVisitor, U8,
-    U16, box_of, clone_each, parts_of,
+    Bytes, Context, Declared, DeclaredBox, DeclaredEntry, Each, EntryVisitor, Last, Shape,
+    ShapeVisitor, U8, U16, box_of, clone_each, parts_of,
 };
 use mp4_frame::{Entries, Result, TryClone};
+use mp4_shown::taken::{self, Object, TakeEntry, TakeFields, TakeShape, take_declared, take_entry};
 use mp4_shown::{
     FieldSink, HasFields, NamedShape, ShowShape, ShownEntry, View, list, names_of, number, run,
 };
+use std::alloc::Global;
 
 /// The code: `ftab`.
 pub const FTAB: u32 = 0x6674_6162;
@@ -76,6 +80,15 @@ impl ShownEntry for FontRecord {
     }
 }
 
+impl TakeEntry for FontRecord {
+    ghost taken = { λ c j. entry_made ⟦<FontRecord as DeclaredEntry>⟧.layout.value
+        (⟦<FontRecordShape as TakeShape>⟧.taken FONT.now c) j };
+
+    fn take(alloc: Global, context: Context, value: json::Value<'_>) -> taken::Result<FontRecord> {
+        take_entry::<FontRecord, FontRecordShape>(alloc, FONT, context, value)
+    }
+}
+
 impl TryClone for FontRecord {
     fn try_clone(&self) -> Result<FontRecord> {
         Ok(FontRecord {
@@ -133,6 +146,14 @@ impl HasFields for Ftab {
 
     fn show<K: FieldSink>(&self, view: View, sink: &mut K) -> mp4_shown::Result<()> {
         FtabShape::show(NAMES, view, &parts_of!(self => entries.as_slice()), sink)
+    }
+}
+
+impl TakeFields for Ftab {
+    ghost taken = { declared_taken ⟦<Ftab as DeclaredBox>⟧.layout (⟦<FtabShape as TakeShape>⟧.taken NAMES.now) };
+
+    fn take(alloc: Global, object: &mut Object<'_>) -> taken::Result<Ftab> {
+        take_declared::<Ftab, FtabShape>(alloc, NAMES, object)
     }
 }
 

@@ -1,5 +1,6 @@
 //! The base media information box.
 
+ghost use Rattle.mp4_shown.specs.TakenShapes.{declared_taken};
 ghost use Rattle.mp4_extra_sound.specs.declared.gmin.TheConstants.{NAMES, WIDTHS};
 ghost use Rattle.mp4_frame.specs.declared.codes.TheConstants as codes;
 ghost use Rattle.mp4_declared.specs.OwnBox.{layout_of};
@@ -9,9 +10,11 @@ ghost use Rattle.std.proofs.Common.{refl, lit<};
 use mp4_declared::Zeros;
 use mp4_declared::declaring::*;
 use mp4_frame::{Result, codes};
+use mp4_shown::taken::{self, Object, TakeFields, TakeShape, take_declared};
 use mp4_shown::{
     FLAGS, FieldSink, HasFields, NamedShape, NumberName, ShowShape, VERSION, View, names_of, number,
 };
+use std::alloc::Global;
 
 /// The way in which media are drawn.
 #[derive(Clone, Copy, Debug, Default, PartialEq, Eq)]
@@ -115,6 +118,14 @@ impl HasFields for Gmin {
     fn show<K: FieldSink>(&self, view: View, sink: &mut K) -> mp4_shown::Result<()> {
         let parts = parts_of!(self => version, flags, graphics, balance);
         GminShape::show(NAMES, view, &parts, sink)
+    }
+}
+
+impl TakeFields for Gmin {
+    ghost taken = { declared_taken ⟦<Gmin as DeclaredBox>⟧.layout (⟦<GminShape as TakeShape>⟧.taken NAMES.now) };
+
+    fn take(alloc: Global, object: &mut Object<'_>) -> taken::Result<Gmin> {
+        take_declared::<Gmin, GminShape>(alloc, NAMES, object)
     }
 }
 

@@ -1,5 +1,6 @@
 //! The hint media header box.
 
+ghost use Rattle.mp4_shown.specs.TakenShapes.{declared_taken};
 ghost use Rattle.mp4_extra_sound.specs.declared.hmhd.TheConstants.{NAMES};
 ghost use Rattle.mp4_frame.specs.declared.codes.TheConstants as codes;
 ghost use Rattle.mp4_declared.specs.OwnBox.{layout_of};
@@ -8,9 +9,11 @@ ghost use Rattle.std.proofs.Common.{refl, lit<};
 use mp4_declared::Zeros;
 use mp4_declared::declaring::*;
 use mp4_frame::{Result, codes};
+use mp4_shown::taken::{self, Object, TakeFields, TakeShape, take_declared};
 use mp4_shown::{
     FLAGS, FieldSink, HasFields, NamedShape, ShowShape, VERSION, View, names_of, number,
 };
+use std::alloc::Global;
 
 /// The media header of hints (`hmhd`, ISO/IEC 14496-12, 12.4.2). A PDU is a packet of the protocol.
 #[derive(Clone, Copy, Debug, Drop, PartialEq, Eq)]
@@ -78,6 +81,14 @@ impl HasFields for Hmhd {
         let parts = parts_of!(self => version, flags, max_pdu_size, avg_pdu_size, max_bitrate,
             avg_bitrate);
         HmhdShape::show(NAMES, view, &parts, sink)
+    }
+}
+
+impl TakeFields for Hmhd {
+    ghost taken = { declared_taken ⟦<Hmhd as DeclaredBox>⟧.layout (⟦<HmhdShape as TakeShape>⟧.taken NAMES.now) };
+
+    fn take(alloc: Global, object: &mut Object<'_>) -> taken::Result<Hmhd> {
+        take_declared::<Hmhd, HmhdShape>(alloc, NAMES, object)
     }
 }
 

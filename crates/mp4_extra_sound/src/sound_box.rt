@@ -4,7 +4,10 @@ ghost use Rattle.std.specs.Prelude.{◌≡◌, ◌+◌, ◌-◌, ◌≤◌, OnOk
 ghost use Rattle.std.proofs.Common.{refl};
 ghost use Rattle.mp4_frame.specs.Reading.{Answers};
 ghost use Rattle.mp4_frame.specs.Members.{reading_known, Is};
-ghost use Rattle.mp4_shown.specs.Catalogue.{inside, kind_of, kinds, shown, valid_as, whole};
+ghost use Rattle.mp4_shown.specs.Catalogue.{code_document, inside, kind_of, kinds, shown, type_document, valid_as};
+ghost use Rattle.mp4_shown.specs.Catalogue.{whole};
+ghost use Rattle.json.specs.Json.{document};
+ghost use Rattle.mp4_shown.specs.Taking.{TakesAs};
 ghost use Rattle.mp4_shown.specs.CatalogueLaws.{by_code, members, named};
 ghost use Rattle.mp4_extra_sound.specs.SoundBox.{sound_types, sound_of_code};
 ghost use Rattle.mp4_extra_sound.specs.SoundBoxLaws.{sound_laws};
@@ -30,6 +33,7 @@ use crate::sthd::{Sthd, SthdBox};
 use crate::stpp::{Stpp, StppBox};
 use crate::tcmi::{Tcmi, TcmiBox};
 use crate::text::{Text, TextBox};
+use crate::tx3g::{Tx3g, Tx3gBox};
 use crate::wvtt::{Wvtt, WvttBox};
 use mp4_compose::CodedEnum;
 use mp4_frame::{
@@ -37,7 +41,7 @@ use mp4_frame::{
 };
 use mp4_shown::{
     Catalogued, Described, FieldSink, HasFields, View, each_held, print_held, read_declared,
-    show_each, type_by_code, types_held, visit_each,
+    show_each, take_by_type, taken, type_by_code, types_held, visit_each,
 };
 use std::alloc::Global;
 use std::fmt;
@@ -66,6 +70,7 @@ macro_rules! of_boxes {
                 Stpp StppBox codes::STPP,
                 Tcmi TcmiBox codes::TCMI,
                 Text TextBox codes::TEXT,
+                Tx3g Tx3gBox codes::TX3G,
                 Wvtt WvttBox codes::WVTT
             ]
             $($rest)*
@@ -103,6 +108,7 @@ pub enum SoundBox {
     StppBox(StppBox),
     TcmiBox(TcmiBox),
     TextBox(TextBox),
+    Tx3gBox(Tx3gBox),
     WvttBox(WvttBox),
 }
 
@@ -127,6 +133,7 @@ pub enum SoundType {
     StppBox,
     TcmiBox,
     TextBox,
+    Tx3gBox,
     WvttBox,
 }
 
@@ -177,6 +184,7 @@ impl Catalogued for SoundBox {
       | types.StppBox ↦ valid_as ⟦<Stpp as Described>⟧.declaration refl
       | types.TcmiBox ↦ valid_as ⟦<Tcmi as Described>⟧.declaration refl
       | types.TextBox ↦ valid_as ⟦<Text as Described>⟧.declaration refl
+      | types.Tx3gBox ↦ valid_as ⟦<Tx3g as Described>⟧.declaration refl
       | types.WvttBox ↦ valid_as ⟦<Wvtt as Described>⟧.declaration refl
     ] };
 }
@@ -192,6 +200,28 @@ fn read_of(of: SoundType, alloc: Global, reader: &mut ByteCursor, size: u64) -> 
     ensures bytes { reader.new.bytes ≡ reader.old.bytes }
 {
     of_boxes!(read_by_type, SoundType, SoundBox, of, (alloc, reader, size))
+}
+
+/// Returns the box of the type `of` whose JSON is `text`.
+fn take_of(of: SoundType, alloc: Global, text: &str) -> taken::Result<SoundBox>
+    ensures { TakesAs (λ b. b) result
+        (type_document sound_types ⟦<SoundBox as Catalogued>⟧.declared of (document text.now)) }
+{
+    of_boxes!(take_by_type, SoundType, SoundBox, of, alloc, text)
+}
+
+impl SoundBox {
+    /// Returns the box with the code `code` whose JSON is `text`: an object with its fields, in any order. Returns
+    /// `None` if no type has this code.
+    pub fn from_json(alloc: Global, code: u32, text: &str) -> taken::Result<Option<SoundBox>>
+        ensures { TakesAs (λ b. b) result
+            (code_document sound_types ⟦<SoundBox as Catalogued>⟧.declared code (document text.now)) }
+    {
+        match type_of(code) {
+            Some(of) => Ok(Some(take_of(of, alloc, text)?)),
+            None => Ok(None),
+        }
+    }
 }
 
 impl BoxEnum for SoundBox {
@@ -376,6 +406,14 @@ impl Holds<TextBox> for SoundBox {
 
     fn wrap(value: TextBox) -> SoundBox {
         SoundBox::TextBox(value)
+    }
+}
+
+impl Holds<Tx3gBox> for SoundBox {
+    ghost wrapped = { boxes.Tx3gBox };
+
+    fn wrap(value: Tx3gBox) -> SoundBox {
+        SoundBox::Tx3gBox(value)
     }
 }
 

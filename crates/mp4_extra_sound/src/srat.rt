@@ -1,5 +1,6 @@
 //! The sampling rate box.
 
+ghost use Rattle.mp4_shown.specs.TakenShapes.{declared_taken};
 ghost use Rattle.mp4_extra_sound.specs.declared.srat.TheConstants.{NAMES};
 ghost use Rattle.mp4_frame.specs.declared.codes.TheConstants as codes;
 ghost use Rattle.mp4_declared.specs.OwnBox.{layout_of};
@@ -7,9 +8,11 @@ ghost use Rattle.std.proofs.Common.{refl, lit<};
 
 use mp4_declared::declaring::*;
 use mp4_frame::{Result, codes};
+use mp4_shown::taken::{self, Object, TakeFields, TakeShape, take_declared};
 use mp4_shown::{
     FLAGS, FieldSink, HasFields, NamedShape, ShowShape, VERSION, View, names_of, number,
 };
+use std::alloc::Global;
 
 /// The sample rate of a sound, if the 16 bits of its sample entry can't hold it (`srat`, ISO/IEC 14496-12, 12.2.3).
 #[derive(Clone, Copy, Debug, Drop, PartialEq, Eq)]
@@ -65,6 +68,14 @@ impl HasFields for Srat {
     fn show<K: FieldSink>(&self, view: View, sink: &mut K) -> mp4_shown::Result<()> {
         let parts = parts_of!(self => version, flags, sampling_rate);
         SratShape::show(NAMES, view, &parts, sink)
+    }
+}
+
+impl TakeFields for Srat {
+    ghost taken = { declared_taken ⟦<Srat as DeclaredBox>⟧.layout (⟦<SratShape as TakeShape>⟧.taken NAMES.now) };
+
+    fn take(alloc: Global, object: &mut Object<'_>) -> taken::Result<Srat> {
+        take_declared::<Srat, SratShape>(alloc, NAMES, object)
     }
 }
 

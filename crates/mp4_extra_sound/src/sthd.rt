@@ -1,5 +1,6 @@
 //! The subtitle media header box.
 
+ghost use Rattle.mp4_shown.specs.TakenShapes.{declared_taken};
 ghost use Rattle.mp4_extra_sound.specs.declared.sthd.TheConstants.{NAMES};
 ghost use Rattle.mp4_frame.specs.declared.codes.TheConstants as codes;
 ghost use Rattle.std.proofs.Common.{refl, lit<};
@@ -7,7 +8,9 @@ ghost use Rattle.mp4_declared.specs.OwnBox.{layout_of};
 
 use mp4_declared::{Declared, DeclaredBox, Full, Shape, ShapeVisitor, Zeros, box_of, parts_of};
 use mp4_frame::{Result, TryClone, codes};
+use mp4_shown::taken::{self, Object, TakeFields, TakeShape, take_declared};
 use mp4_shown::{FLAGS, FieldSink, HasFields, NamedShape, ShowShape, VERSION, View, names_of};
+use std::alloc::Global;
 
 /// The media header of subtitles (`sthd`, ISO/IEC 14496-12, 12.6.2).
 #[derive(Clone, Copy, Debug, Drop, PartialEq, Eq)]
@@ -55,6 +58,14 @@ impl HasFields for Sthd {
 
     fn show<K: FieldSink>(&self, view: View, sink: &mut K) -> mp4_shown::Result<()> {
         SthdShape::show(NAMES, view, &parts_of!(self => version, flags), sink)
+    }
+}
+
+impl TakeFields for Sthd {
+    ghost taken = { declared_taken ⟦<Sthd as DeclaredBox>⟧.layout (⟦<SthdShape as TakeShape>⟧.taken NAMES.now) };
+
+    fn take(alloc: Global, object: &mut Object<'_>) -> taken::Result<Sthd> {
+        take_declared::<Sthd, SthdShape>(alloc, NAMES, object)
     }
 }
 

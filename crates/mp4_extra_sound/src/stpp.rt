@@ -1,5 +1,6 @@
 //! The sample entry of subtitles in XML.
 
+ghost use Rattle.mp4_shown.specs.TakenShapes.{declared_taken};
 ghost use Rattle.mp4_extra_sound.specs.declared.stpp.TheConstants.{NAMES};
 ghost use Rattle.mp4_frame.specs.declared.codes.TheConstants as codes;
 ghost use Rattle.mp4_declared.specs.OwnBox.{layout_of};
@@ -7,7 +8,9 @@ ghost use Rattle.std.proofs.Common.{refl, lit<};
 
 use mp4_declared::declaring::*;
 use mp4_frame::{Result, codes};
+use mp4_shown::taken::{self, Object, TakeFields, TakeShape, take_declared};
 use mp4_shown::{FieldSink, HasFields, NamedShape, ShowShape, View, names_of, number, run};
+use std::alloc::Global;
 
 /// The sample entry of subtitles in XML (`stpp`, ISO/IEC 14496-12, 12.6.3). In the standard, strings are UTF-8 without
 /// a zero byte. Items of a list in a string are separated by spaces.
@@ -76,6 +79,14 @@ impl HasFields for Stpp {
             parts_of!(self => data_reference_index, namespace.as_slice(), schema_location.as_slice(),
             auxiliary_mime_types.as_slice(), boxes.as_slice());
         StppShape::show(NAMES, view, &parts, sink)
+    }
+}
+
+impl TakeFields for Stpp {
+    ghost taken = { declared_taken ⟦<Stpp as DeclaredBox>⟧.layout (⟦<StppShape as TakeShape>⟧.taken NAMES.now) };
+
+    fn take(alloc: Global, object: &mut Object<'_>) -> taken::Result<Stpp> {
+        take_declared::<Stpp, StppShape>(alloc, NAMES, object)
     }
 }
 

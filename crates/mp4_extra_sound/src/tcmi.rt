@@ -1,5 +1,6 @@
 //! The timecode media information box.
 
+ghost use Rattle.mp4_shown.specs.TakenShapes.{declared_taken};
 ghost use Rattle.mp4_extra_sound.specs.declared.tcmi.TheConstants.{NAMES};
 ghost use Rattle.mp4_frame.specs.declared.codes.TheConstants as codes;
 ghost use Rattle.mp4_declared.specs.OwnBox.{layout_of};
@@ -7,9 +8,11 @@ ghost use Rattle.std.proofs.Common.{refl, lit<};
 
 use mp4_declared::declaring::*;
 use mp4_frame::{Result, codes};
+use mp4_shown::taken::{self, Object, TakeFields, TakeShape, take_declared};
 use mp4_shown::{
     FLAGS, FieldSink, HasFields, NamedShape, ShowShape, VERSION, View, names_of, number, run,
 };
+use std::alloc::Global;
 
 /// The look of a time code (`tcmi`, QuickTime File Format, "Timecode media information atom").
 #[derive(Debug, Drop, PartialEq, Eq)]
@@ -77,6 +80,14 @@ impl HasFields for Tcmi {
         let parts =
             parts_of!(self => version, flags, text_font, text_face, text_size, rest.as_slice());
         TcmiShape::show(NAMES, view, &parts, sink)
+    }
+}
+
+impl TakeFields for Tcmi {
+    ghost taken = { declared_taken ⟦<Tcmi as DeclaredBox>⟧.layout (⟦<TcmiShape as TakeShape>⟧.taken NAMES.now) };
+
+    fn take(alloc: Global, object: &mut Object<'_>) -> taken::Result<Tcmi> {
+        take_declared::<Tcmi, TcmiShape>(alloc, NAMES, object)
     }
 }
 

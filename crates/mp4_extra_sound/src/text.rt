@@ -1,12 +1,15 @@
 //! The text media information box.
 
+ghost use Rattle.mp4_shown.specs.TakenShapes.{declared_taken};
 ghost use Rattle.mp4_extra_sound.specs.declared.text.TheConstants.{NAMES};
 ghost use Rattle.mp4_frame.specs.declared.codes.TheConstants as codes;
 ghost use Rattle.std.proofs.Common.{refl, lit<};
 
 use mp4_declared::declaring::*;
 use mp4_frame::{Result, codes};
+use mp4_shown::taken::{self, Object, TakeFields, TakeShape, take_declared};
 use mp4_shown::{FieldSink, HasFields, NamedShape, ShowShape, View, names_of, number};
+use std::alloc::Global;
 
 /// The place of text (`text`, QuickTime File Format, "Text media information atom"): a matrix. `u`, `v` and `w` have 30
 /// bits after the point, the others 16. A `text` in an `stsd` is another box.
@@ -125,6 +128,14 @@ impl HasFields for Text {
         let second = parts_of!(self => c, d, v);
         let third = parts_of!(self => x, y, w);
         TextShape::show(NAMES, view, &(first, (second, (third, ()))), sink)
+    }
+}
+
+impl TakeFields for Text {
+    ghost taken = { declared_taken ⟦<Text as DeclaredBox>⟧.layout (⟦<TextShape as TakeShape>⟧.taken NAMES.now) };
+
+    fn take(alloc: Global, object: &mut Object<'_>) -> taken::Result<Text> {
+        take_declared::<Text, TextShape>(alloc, NAMES, object)
     }
 }
 

@@ -1,11 +1,13 @@
 //! The sample entry of timed text.
 
-ghost use Rattle.mp4_extra_sound.specs.declared.tx3g.TheConstants.{COLOR_WIDTHS, CORNERS, NAMES, STYLE};
+ghost use Rattle.mp4_extra_sound.specs.declared.tx3g.TheConstants.{COLOR_WIDTHS, CORNERS, NAMES, STYLE_WIDTHS};
 ghost use Rattle.mp4_frame.specs.declared.codes.TheConstants as codes;
 ghost use Rattle.std.proofs.Common.{refl, lit<};
 ghost use Rattle.mp4_declared.specs.OwnBox.{layout_of};
 ghost use Rattle.mp4_declared.specs.DeclaredEntry.{exact_layout_of};
 ghost use Rattle.mp4_declared.specs.Layout.{packed, fields_of};
+
+mod taken;
 
 use mp4_declared::{
     Bits, Declared, DeclaredBox, DeclaredEntry, EntryLayout, EntryVisitor, I8, I16, Last, Reserved,
@@ -134,28 +136,83 @@ pub struct StyleRecord {
     pub text_color_rgba: TextColor,
 }
 
-/// The layout of a style: five numbers and a colour.
-pub type StyleRecordShape = (U16, U16, U16, U8, (U8, Last<Bits<TextColor, 4, 4>>));
+/// The widths of the numbers of a style, in bits: five, and those of its colour.
+const STYLE_WIDTHS: [u8; 9] = [16, 16, 16, 8, 8, 8, 8, 8, 8];
 
-impl DeclaredEntry for StyleRecord {
-    ghost use Rattle.mp4_extra_sound.specs.contracts.tx3g.StyleRecord.{struct};
+impl EntryLayout<9, 12> for StyleRecord {
+    ghost layout = { packed (fields_of STYLE_WIDTHS)
+        (λ v. (
+          v.start_char,
+          (
+            v.end_char,
+            (
+              v.font_id,
+              (
+                v.face_style_flags,
+                (
+                  v.font_size,
+                  (
+                    v.text_color_rgba.red,
+                    (
+                      v.text_color_rgba.green,
+                      (v.text_color_rgba.blue, (v.text_color_rgba.alpha, tt)),
+                    ),
+                  ),
+                ),
+              ),
+            ),
+          ),
+        ))
+        (λ x. record {
+          start_char = x.0;
+          end_char = x.1.0;
+          font_id = x.1.1.0;
+          face_style_flags = x.1.1.1.0;
+          font_size = x.1.1.1.1.0;
+          text_color_rgba = record {
+            red = x.1.1.1.1.1.0;
+            green = x.1.1.1.1.1.1.0;
+            blue = x.1.1.1.1.1.1.1.0;
+            alpha = x.1.1.1.1.1.1.1.1.0;
+          };
+        }) (λ _. refl) (λ _. refl) refl };
 
-    type Shape = StyleRecordShape;
-
-    ghost layout = { exact_layout_of struct (λ _. tt) (λ _. refl) };
-
-    fn from_content(found: <StyleRecordShape as Shape>::Value) -> StyleRecord {
-        box_of!(found => StyleRecord { start_char, end_char, font_id, face_style_flags, font_size,
-            text_color_rgba })
+    fn widths() -> [u8; 9] {
+        STYLE_WIDTHS
     }
 
-    fn visit<Q: EntryVisitor<Self::Shape>>(&self, question: Q, out: &mut [u8]) -> Q::Answer {
-        let parts = parts_of!(self => start_char, end_char, font_id, face_style_flags, font_size,
-            text_color_rgba);
-        question.visit(parts, out)
+    fn numbers(&self) -> [u64; 9] {
+        let color = self.text_color_rgba;
+        [
+            u64::from(self.start_char),
+            u64::from(self.end_char),
+            u64::from(self.font_id),
+            u64::from(self.face_style_flags),
+            u64::from(self.font_size),
+            u64::from(color.red),
+            u64::from(color.green),
+            u64::from(color.blue),
+            u64::from(color.alpha),
+        ]
     }
 
-    ghost begins = { λ _. lit< tt };
+    fn from_numbers(n: &[u64; 9]) -> StyleRecord {
+        StyleRecord {
+            start_char: n[0] as u16,
+            end_char: n[1] as u16,
+            font_id: n[2] as u16,
+            face_style_flags: n[3] as u8,
+            font_size: n[4] as u8,
+            text_color_rgba: TextColor {
+                red: n[5] as u8,
+                green: n[6] as u8,
+                blue: n[7] as u8,
+                alpha: n[8] as u8,
+            },
+        }
+    }
+
+    ghost few = { lit< tt };
 }
 
 /// The names of the flags of a style.
@@ -165,7 +222,7 @@ const FACES: &[Meaning] = &[(1, "bold"), (2, "italic"), (4, "underline")];
 type StyleShown = (U16, U16, U16, U8, (U8, Last<Group<Bits<TextColor, 4, 4>>>));
 
 /// The names of the fields of a style.
-const STYLE: &<StyleShown as NamedShape>::Names = &names_of!(
+const STYLE: <StyleShown as NamedShape>::Names = names_of!(
     number!("startChar"),
     number!("endChar"),
     number!("font-ID"),
@@ -173,20 +230,6 @@ const STYLE: &<StyleShown as NamedShape>::Names = &names_of!(
     number!("font-size"),
     ("text-color-rgba", COLOR)
 );
-
-impl HasFields for StyleRecord {
-    ghost shown = { λ view d. ⟦<StyleShown as NamedShape>⟧.shown STYLE.now view
-        (⟦<StyleRecord as DeclaredEntry>⟧.layout.content d) };
-
-    ghost whole = { λ view d. ⟦<StyleShown as NamedShape>⟧.whole STYLE.now view
-        (⟦<StyleRecord as DeclaredEntry>⟧.layout.content d) };
-
-    fn show<K: FieldSink>(&self, view: View, sink: &mut K) -> mp4_shown::Result<()> {
-        let parts = parts_of!(self => start_char, end_char, font_id, face_style_flags, font_size,
-            text_color_rgba);
-        show_shape::<StyleShown, _, K>(STYLE, view, &parts, sink)
-    }
-}
 
 /// The sample entry of timed text (`tx3g`, 3GPP TS 26.245, 5.16).
 #[derive(Debug, Drop, PartialEq, Eq)]
@@ -221,7 +264,7 @@ pub type Tx3gShape = Reserved<
         (
             Bits<TextColor, 4, 4>,
             Nested<BoxRecord>,
-            Nested<StyleRecord>,
+            Bits<StyleRecord, 9, 12>,
             Last<Rest>,
         ),
     ),
@@ -245,10 +288,9 @@ impl DeclaredBox for Tx3g {
 
     fn visit<Q: ShapeVisitor<Self::Shape>>(&self, out: &mut [u8]) -> Q::Answer {
         let place = &self.default_text_box;
-        let style = &self.default_style;
         let parts = parts_of!(self => data_reference_index, display_flags,
             horizontal_justification, vertical_justification, background_color_rgba, = place,
-            = style, boxes.as_slice());
+            default_style, boxes.as_slice());
         Q::visit(parts, out)
     }
 
@@ -273,7 +315,7 @@ type Tx3gShown = (
     (
         Group<Bits<TextColor, 4, 4>>,
         Group<Nested<BoxRecord>>,
-        Last<Group<Nested<StyleRecord>>>,
+        Last<Group<StyleShown>>,
     ),
 );
 
@@ -285,7 +327,7 @@ const NAMES: &<Tx3gShown as NamedShape>::Names = &names_of!(
     number!("vertical-justification"),
     ("background-color-rgba", COLOR),
     ("default-text-box", ()),
-    ("default-style", ())
+    ("default-style", STYLE)
 );
 
 /// The boxes inside are shown as boxes.
@@ -298,7 +340,28 @@ impl HasFields for Tx3g {
           b.horizontal_justification,
           (
             b.vertical_justification,
-            (b.background_color_rgba, (b.default_text_box, (b.default_style, tt))),
+            (
+              b.background_color_rgba,
+              (
+                b.default_text_box,
+                (
+                  (
+                    b.default_style.start_char,
+                    (
+                      b.default_style.end_char,
+                      (
+                        b.default_style.font_id,
+                        (
+                          b.default_style.face_style_flags,
+                          (b.default_style.font_size, (b.default_style.text_color_rgba, tt)),
+                        ),
+                      ),
+                    ),
+                  ),
+                  tt,
+                ),
+              ),
+            ),
           ),
         ),
       ),
@@ -312,7 +375,28 @@ impl HasFields for Tx3g {
           b.horizontal_justification,
           (
             b.vertical_justification,
-            (b.background_color_rgba, (b.default_text_box, (b.default_style, tt))),
+            (
+              b.background_color_rgba,
+              (
+                b.default_text_box,
+                (
+                  (
+                    b.default_style.start_char,
+                    (
+                      b.default_style.end_char,
+                      (
+                        b.default_style.font_id,
+                        (
+                          b.default_style.face_style_flags,
+                          (b.default_style.font_size, (b.default_style.text_color_rgba, tt)),
+                        ),
+                      ),
+                    ),
+                  ),
+                  tt,
+                ),
+              ),
+            ),
           ),
         ),
       ),
@@ -320,7 +404,9 @@ impl HasFields for Tx3g {
 
     fn show<K: FieldSink>(&self, view: View, sink: &mut K) -> mp4_shown::Result<()> {
         let place = &self.default_text_box;
-        let style = &self.default_style;
+        let style = self.default_style;
+        let style = parts_of!(style => start_char, end_char, font_id, face_style_flags, font_size,
+            text_color_rgba);
         let parts = parts_of!(self => data_reference_index, display_flags,
             horizontal_justification, vertical_justification, background_color_rgba, = place,
             = style);

@@ -1,5 +1,6 @@
 //! The sample entry of WebVTT.
 
+ghost use Rattle.mp4_shown.specs.TakenShapes.{declared_taken};
 ghost use Rattle.mp4_extra_sound.specs.declared.wvtt.TheConstants.{NAMES};
 ghost use Rattle.mp4_frame.specs.declared.codes.TheConstants as codes;
 ghost use Rattle.mp4_declared.specs.OwnBox.{layout_of};
@@ -7,7 +8,9 @@ ghost use Rattle.std.proofs.Common.{refl, lit<};
 
 use mp4_declared::declaring::*;
 use mp4_frame::{Result, codes};
+use mp4_shown::taken::{self, Object, TakeFields, TakeShape, take_declared};
 use mp4_shown::{FieldSink, HasFields, NamedShape, ShowShape, View, names_of, number, run};
+use std::alloc::Global;
 
 /// The sample entry of WebVTT (`wvtt`, ISO/IEC 14496-30, 7.5).
 #[derive(Debug, Drop, PartialEq, Eq)]
@@ -61,6 +64,14 @@ impl HasFields for Wvtt {
     fn show<K: FieldSink>(&self, view: View, sink: &mut K) -> mp4_shown::Result<()> {
         let parts = parts_of!(self => data_reference_index, boxes.as_slice());
         WvttShape::show(NAMES, view, &parts, sink)
+    }
+}
+
+impl TakeFields for Wvtt {
+    ghost taken = { declared_taken ⟦<Wvtt as DeclaredBox>⟧.layout (⟦<WvttShape as TakeShape>⟧.taken NAMES.now) };
+
+    fn take(alloc: Global, object: &mut Object<'_>) -> taken::Result<Wvtt> {
+        take_declared::<Wvtt, WvttShape>(alloc, NAMES, object)
     }
 }
 

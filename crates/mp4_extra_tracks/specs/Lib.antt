@@ -7,3 +7,8 @@ pub mod HandlerName
 pub mod HandlerNameLaws
 pub mod TrackBox
 pub mod TrackBoxLaws
+pub mod TakenData
+pub mod TakenInfe
+pub mod TakenPssh
+pub mod TakenHdlr
+pub mod TakenUrn

@@ -1,5 +1,6 @@
 //! The alias of a file with media data.
 
+ghost use Rattle.mp4_shown.specs.TakenShapes.{declared_taken};
 ghost use Rattle.mp4_extra_tracks.specs.declared.alis.TheConstants.{NAMES};
 ghost use Rattle.mp4_frame.specs.declared.codes.TheConstants as codes;
 ghost use Rattle.std.proofs.Common.{refl, lit<};
@@ -9,9 +10,11 @@ use mp4_declared::{
     Declared, DeclaredBox, Full, Last, Rest, Shape, ShapeVisitor, box_of, parts_of,
 };
 use mp4_frame::{Entries, Result, TryClone, codes};
+use mp4_shown::taken::{self, Object, TakeFields, TakeShape, take_declared};
 use mp4_shown::{
     FieldSink, HasFields, Meaning, NamedShape, ShowShape, VERSION, View, names_of, number, run,
 };
+use std::alloc::Global;
 
 /// A reference to media data by a Macintosh alias (`alis`, QuickTime File Format, "Data reference atoms").
 #[derive(Debug, Drop, PartialEq, Eq)]
@@ -70,6 +73,14 @@ impl HasFields for Alis {
     fn show<K: FieldSink>(&self, view: View, sink: &mut K) -> mp4_shown::Result<()> {
         let parts = parts_of!(self => version, flags, alias.as_slice());
         AlisShape::show(NAMES, view, &parts, sink)
+    }
+}
+
+impl TakeFields for Alis {
+    ghost taken = { declared_taken ⟦<Alis as DeclaredBox>⟧.layout (⟦<AlisShape as TakeShape>⟧.taken NAMES.now) };
+
+    fn take(alloc: Global, object: &mut Object<'_>) -> taken::Result<Alis> {
+        take_declared::<Alis, AlisShape>(alloc, NAMES, object)
     }
 }
 

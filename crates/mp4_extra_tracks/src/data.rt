@@ -14,6 +14,8 @@ ghost use Rattle.std.proofs.Common.{refl, lit<};
 ghost use Rattle.std.specs.Prelude.{◌≡◌, ◌==◌, ◌||◌, true, OnOk, length};
 ghost use Rattle.mp4_declared.specs.OwnBox.{layout_of};
 
+mod taken;
+
 use mp4_declared::{
     Declared, DeclaredBox, Last, Rest, Shape, ShapeVisitor, U8, U16, U24, box_of, parts_of,
 };

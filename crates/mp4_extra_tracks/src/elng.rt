@@ -1,5 +1,6 @@
 //! The extended language box.
 
+ghost use Rattle.mp4_shown.specs.TakenShapes.{declared_taken};
 ghost use Rattle.mp4_extra_tracks.specs.declared.elng.TheConstants.{NAMES};
 ghost use Rattle.mp4_frame.specs.declared.codes.TheConstants as codes;
 ghost use Rattle.std.proofs.Common.{refl, lit<};
@@ -9,7 +10,9 @@ use mp4_declared::{
     Declared, DeclaredBox, Full, Last, Rest, Shape, ShapeVisitor, box_of, parts_of,
 };
 use mp4_frame::{Entries, Result, TryClone, codes};
+use mp4_shown::taken::{self, Object, TakeFields, TakeShape, take_declared};
 use mp4_shown::{FLAGS, FieldSink, HasFields, NamedShape, ShowShape, VERSION, View, names_of, run};
+use std::alloc::Global;
 
 /// The language of a track's media (`elng`, ISO/IEC 14496-12, 8.4.6).
 #[derive(Debug, Drop, PartialEq, Eq)]
@@ -67,6 +70,14 @@ impl HasFields for Elng {
     fn show<K: FieldSink>(&self, view: View, sink: &mut K) -> mp4_shown::Result<()> {
         let parts = parts_of!(self => version, flags, extended_language.as_slice());
         ElngShape::show(NAMES, view, &parts, sink)
+    }
+}
+
+impl TakeFields for Elng {
+    ghost taken = { declared_taken ⟦<Elng as DeclaredBox>⟧.layout (⟦<ElngShape as TakeShape>⟧.taken NAMES.now) };
+
+    fn take(alloc: Global, object: &mut Object<'_>) -> taken::Result<Elng> {
+        take_declared::<Elng, ElngShape>(alloc, NAMES, object)
     }
 }
 

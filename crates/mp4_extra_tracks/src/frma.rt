@@ -1,5 +1,6 @@
 //! The original format box.
 
+ghost use Rattle.mp4_shown.specs.TakenShapes.{declared_taken};
 ghost use Rattle.mp4_extra_tracks.specs.declared.frma.TheConstants.{NAMES};
 ghost use Rattle.mp4_frame.specs.declared.codes.TheConstants as codes;
 ghost use Rattle.std.proofs.Common.{refl, lit<};
@@ -7,7 +8,9 @@ ghost use Rattle.mp4_declared.specs.OwnBox.{layout_of};
 
 use mp4_declared::{Code, Declared, DeclaredBox, Last, Shape, ShapeVisitor, box_of, parts_of};
 use mp4_frame::{FourCC, Result, TryClone, codes};
+use mp4_shown::taken::{self, Object, TakeFields, TakeShape, take_declared};
 use mp4_shown::{FieldSink, HasFields, NamedShape, ShowShape, View, names_of};
+use std::alloc::Global;
 
 /// The format of media before a transformation such as encryption (`frma`, ISO/IEC 14496-12, 8.12.2).
 #[derive(Clone, Copy, Debug, Drop, PartialEq, Eq)]
@@ -53,6 +56,14 @@ impl HasFields for Frma {
 
     fn show<K: FieldSink>(&self, view: View, sink: &mut K) -> mp4_shown::Result<()> {
         FrmaShape::show(NAMES, view, &parts_of!(self => data_format), sink)
+    }
+}
+
+impl TakeFields for Frma {
+    ghost taken = { declared_taken ⟦<Frma as DeclaredBox>⟧.layout (⟦<FrmaShape as TakeShape>⟧.taken NAMES.now) };
+
+    fn take(alloc: Global, object: &mut Object<'_>) -> taken::Result<Frma> {
+        take_declared::<Frma, FrmaShape>(alloc, NAMES, object)
     }
 }
 

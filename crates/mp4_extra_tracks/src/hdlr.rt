@@ -2,15 +2,18 @@
 
 ghost use Rattle.mp4_extra_tracks.specs.HandlerName.{handler_name_shape};
 ghost use Rattle.mp4_extra_tracks.specs.HandlerNameLaws.{handler_name_laws};
-ghost use Rattle.mp4_extra_tracks.specs.ShownHandler.{after_count, is_bare, is_counted, shown_set_code};
-ghost use Rattle.mp4_extra_tracks.specs.ShownHandler.{whole_set_code};
+ghost use Rattle.mp4_extra_tracks.specs.ShownHandler.{after_count, is_bare, is_counted, is_usual, says_all};
+ghost use Rattle.mp4_extra_tracks.specs.ShownHandler.{shown_name, shown_set_code, whole_name, whole_set_code};
 ghost use Rattle.mp4_extra_tracks.specs.declared.hdlr.TheConstants.{NAMES};
 ghost use Rattle.mp4_frame.specs.declared.codes.TheConstants as codes;
 ghost use Rattle.mp4_shown.specs.Event.{Text, seen_text};
-ghost use Rattle.mp4_shown.specs.Runs.{is_ended, unended};
+ghost use Rattle.mp4_shown.specs.Runs.{BytesName as SeenName, is_ended, seen_bytes, unended};
 ghost use Rattle.std.proofs.Common.{refl, lit<};
 ghost use Rattle.std.specs.Prelude.{◌≡◌};
+ghost use Rattle.std.specs.Str.{is_utf8};
 ghost use Rattle.mp4_declared.specs.OwnBox.{layout_of};
+
+mod taken;
 
 use mp4_declared::{
     Code, Context, Declared, DeclaredBox, Last, PutShape, Rest, Shape, ShapeVisitor, U8, U24, U32,
@@ -18,8 +21,8 @@ use mp4_declared::{
 };
 use mp4_frame::{Entries, FourCC, Result, TryClone, bytes_from, check, codes, put_bytes};
 use mp4_shown::{
-    FLAGS, FieldSink, HasFields, NamedBy, NamedShape, ShowShape, VERSION, Value, View, number, run,
-    show_shape,
+    BytesName, FLAGS, FieldSink, HasFields, NamedShape, ShowShape, VERSION, Value, View, number,
+    run, show_shape,
 };
 use std::alloc::Global;
 
@@ -174,12 +177,19 @@ fn unended(bytes: &[u8]) -> &[u8]
     }
 }
 
+/// Returns the name in `bytes` without QuickTime's count, and without a byte of 0 that ends it. It may not be UTF-8.
+pub fn name_text(bytes: &[u8]) -> &[u8]
+    ensures { result.now ≡ unended (after_count bytes.now) }
+{
+    unended(after_count(bytes))
+}
+
 impl Hdlr {
     /// Returns the name without QuickTime's count, and without a byte of 0 that ends it. It may not be UTF-8.
     pub fn text(&self) -> &[u8]
         ensures { result.now ≡ unended (after_count self.now.name) }
     {
-        unended(after_count(self.name.as_slice()))
+        name_text(self.name.as_slice())
     }
 }
 
@@ -216,11 +226,77 @@ impl ShowShape<FourCC> for SetCode {
     }
 }
 
-/// The content of the box, for showing only. The look of the name depends on how it ends.
-type HdlrShown = (U8, U24, SetCode, Code, (SetCode, U32, U32, NamedBy<Rest>));
+/// Returns whether the bytes of a name have the usual form: in the standard a byte of 0 ends them, and in QuickTime,
+/// which has types of components, they are counted.
+fn is_usual(component: FourCC, bytes: &[u8]) -> bool
+    ensures { result ≡ is_usual component bytes.now }
+{
+    if u32::from(component) == 0 {
+        is_ended(bytes) && !is_counted(bytes)
+    } else {
+        is_bare(bytes)
+    }
+}
+
+/// Returns whether `bytes` are UTF-8.
+#[tactic(auto, using(mp4_frame::specs::TextLaws::utf8_passes, mp4_frame::specs::TextLaws::other_fails))]
+fn is_text(bytes: &[u8]) -> bool
+    ensures { result ≡ is_utf8 bytes.now }
+{
+    match std::str::from_utf8(bytes) {
+        Ok(_) => true,
+        Err(_) => false,
+    }
+}
+
+/// Returns whether all `bytes` of a name follow from its text.
+fn says_all(component: FourCC, bytes: &[u8]) -> bool
+    ensures { result ≡ says_all component bytes.now }
+{
+    is_usual(component, bytes) && is_text(name_text(bytes))
+}
+
+/// The type of the component and the bytes of the name, for showing only. The bytes are shown unless they follow from
+/// the text.
+pub struct NameShown;
+
+impl NamedShape for NameShown {
+    type Value = (FourCC, Entries<u8>);
+
+    type Names = BytesName;
+
+    ghost Seen = { SeenName };
+
+    ghost seen = { seen_bytes };
+
+    ghost shown = { λ name view v. shown_name name v.0 v.1 };
+
+    ghost whole = { λ name view v. whole_name name v.0 v.1 };
+}
+
+impl<'a> ShowShape<(FourCC, &'a [u8])> for NameShown {
+    ghost content = { λ v. (v.0, v.1.now) };
+
+    fn show<K: FieldSink>(
+        name: &BytesName,
+        _view: View,
+        value: &(FourCC, &'a [u8]),
+        sink: &mut K,
+    ) -> mp4_shown::Result<()> {
+        let (component, bytes) = *value;
+        sink.field(name.0, Value::Text(name_text(bytes)))?;
+        if says_all(component, bytes) {
+            return Ok(());
+        }
+        sink.field(name.2, Value::Bytes(bytes))
+    }
+}
+
+/// The content of the box, for showing only.
+pub type HdlrShown = (U8, U24, SetCode, Code, (SetCode, U32, U32, NameShown));
 
 /// The names of the fields.
-const NAMES: &<HdlrShown as NamedShape>::Names = &(
+pub const NAMES: &<HdlrShown as NamedShape>::Names = &(
     VERSION,
     (
         FLAGS,
@@ -234,7 +310,7 @@ const NAMES: &<HdlrShown as NamedShape>::Names = &(
                         number!("component_flags", Reserved(0)),
                         (
                             number!("component_flags_mask", Reserved(0)),
-                            (run!("name", Text), run!("name", Ended)),
+                            run!("name", Ended),
                         ),
                     ),
                 ),
@@ -254,7 +330,7 @@ impl HasFields for Hdlr {
             b.handler_type,
             (
               b.component_manufacturer,
-              (b.component_flags, (b.component_flags_mask, (is_bare b.name, after_count b.name))),
+              (b.component_flags, (b.component_flags_mask, (b.component_type, b.name))),
             ),
           ),
         ),
@@ -271,7 +347,7 @@ impl HasFields for Hdlr {
             b.handler_type,
             (
               b.component_manufacturer,
-              (b.component_flags, (b.component_flags_mask, (is_bare b.name, after_count b.name))),
+              (b.component_flags, (b.component_flags_mask, (b.component_type, b.name))),
             ),
           ),
         ),
@@ -279,8 +355,7 @@ impl HasFields for Hdlr {
     ) };
 
     fn show<K: FieldSink>(&self, view: View, sink: &mut K) -> mp4_shown::Result<()> {
-        let name = self.name.as_slice();
-        let name = (is_bare(name), after_count(name));
+        let name = (self.component_type, self.name.as_slice());
         let flags = (self.component_flags, (self.component_flags_mask, name));
         let component = (self.handler_type, (self.component_manufacturer, flags));
         let parts = (self.version, (self.flags, (self.component_type, component)));

@@ -1,5 +1,6 @@
 //! The item location box.
 
+ghost use Rattle.mp4_shown.specs.TakenShapes.{declared_taken};
 ghost use Rattle.mp4_extra_tracks.specs.declared.iloc.TheConstants.{NAMES, WIDTHS};
 ghost use Rattle.mp4_frame.specs.declared.codes.TheConstants as codes;
 ghost use Rattle.mp4_declared.specs.OwnBox.{layout_of};
@@ -9,10 +10,12 @@ ghost use Rattle.std.proofs.Common.{refl, lit<};
 use crate::item_id::ItemId;
 use mp4_declared::declaring::*;
 use mp4_frame::{Result, codes};
+use mp4_shown::taken::{self, Object, TakeFields, TakeShape, take_declared};
 use mp4_shown::{
     FLAGS, FieldSink, HasFields, NamedShape, NumberName, ShowShape, VERSION, View, names_of,
     number, run,
 };
+use std::alloc::Global;
 
 /// The numbers of bytes of fields of the items of an `iloc`: 0, 4 or 8.
 #[derive(Clone, Copy, Debug, Default, PartialEq, Eq)]
@@ -126,6 +129,14 @@ impl HasFields for Iloc {
     fn show<K: FieldSink>(&self, view: View, sink: &mut K) -> mp4_shown::Result<()> {
         let parts = parts_of!(self => version, flags, sizes, item_count, items.as_slice());
         IlocShape::show(NAMES, view, &parts, sink)
+    }
+}
+
+impl TakeFields for Iloc {
+    ghost taken = { declared_taken ⟦<Iloc as DeclaredBox>⟧.layout (⟦<IlocShape as TakeShape>⟧.taken NAMES.now) };
+
+    fn take(alloc: Global, object: &mut Object<'_>) -> taken::Result<Iloc> {
+        take_declared::<Iloc, IlocShape>(alloc, NAMES, object)
     }
 }
 

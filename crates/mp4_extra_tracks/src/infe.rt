@@ -7,6 +7,8 @@ ghost use Rattle.mp4_declared.specs.OwnBox.{layout_of};
 ghost use Rattle.std.proofs.Common.{refl, lit<};
 ghost use Rattle.std.specs.Prelude.{◌≡◌};
 
+mod taken;
+
 use crate::item_id::ItemId;
 use mp4_declared::Code;
 use mp4_declared::declaring::*;

@@ -1,5 +1,6 @@
 //! The object descriptor box.
 
+ghost use Rattle.mp4_shown.specs.TakenShapes.{declared_taken};
 ghost use Rattle.mp4_extra_tracks.specs.declared.iods.TheConstants.{NAMES};
 ghost use Rattle.mp4_frame.specs.declared.codes.TheConstants as codes;
 ghost use Rattle.mp4_declared.specs.OwnBox.{layout_of};
@@ -7,7 +8,9 @@ ghost use Rattle.std.proofs.Common.{refl, lit<};
 
 use mp4_declared::declaring::*;
 use mp4_frame::{Result, codes};
+use mp4_shown::taken::{self, Object, TakeFields, TakeShape, take_declared};
 use mp4_shown::{FLAGS, FieldSink, HasFields, NamedShape, ShowShape, VERSION, View, names_of, run};
+use std::alloc::Global;
 
 /// The description of an MPEG-4 presentation (`iods`, ISO/IEC 14496-14, 5.1).
 #[derive(Debug, Drop, PartialEq, Eq)]
@@ -59,6 +62,14 @@ impl HasFields for Iods {
     fn show<K: FieldSink>(&self, view: View, sink: &mut K) -> mp4_shown::Result<()> {
         let parts = parts_of!(self => version, flags, descriptor.as_slice());
         IodsShape::show(NAMES, view, &parts, sink)
+    }
+}
+
+impl TakeFields for Iods {
+    ghost taken = { declared_taken ⟦<Iods as DeclaredBox>⟧.layout (⟦<IodsShape as TakeShape>⟧.taken NAMES.now) };
+
+    fn take(alloc: Global, object: &mut Object<'_>) -> taken::Result<Iods> {
+        take_declared::<Iods, IodsShape>(alloc, NAMES, object)
     }
 }
 

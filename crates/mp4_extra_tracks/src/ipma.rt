@@ -1,5 +1,7 @@
 //! The item property association box.
 
+ghost use Rattle.mp4_shown.specs.TakenShapes.{entry_made};
+ghost use Rattle.mp4_shown.specs.TakenShapes.{declared_taken};
 ghost use Rattle.mp4_extra_tracks.specs.ItemId.{item_width, some_item};
 ghost use Rattle.mp4_extra_tracks.specs.declared.ipma.TheConstants.{ENTRY, LONG, NAMES, SHORT};
 ghost use Rattle.mp4_frame.specs.declared.codes.TheConstants as codes;
@@ -16,10 +18,12 @@ use crate::item_id::ItemId;
 use mp4_declared::declaring::*;
 use mp4_declared::{Condition, Context, clone_each};
 use mp4_frame::{Result, codes};
+use mp4_shown::taken::{self, Object, TakeEntry, TakeFields, TakeShape, take_declared, take_entry};
 use mp4_shown::{
     FieldSink, HasFields, Meaning, NamedShape, NumberName, ShowShape, ShownEntry, VERSION, View,
     list, names_of, number, show_shape,
 };
+use std::alloc::Global;
 
 /// The condition that no flag of `MASK` is set.
 pub struct WithoutFlags<const MASK: u32>;
@@ -169,6 +173,19 @@ impl ShownEntry for ItemProperties {
     }
 }
 
+impl TakeEntry for ItemProperties {
+    ghost taken = { λ c j. entry_made ⟦<ItemProperties as DeclaredEntry>⟧.layout.value
+        (⟦<ItemPropertiesShape as TakeShape>⟧.taken ENTRY.now c) j };
+
+    fn take(
+        alloc: Global,
+        context: Context,
+        value: json::Value<'_>,
+    ) -> taken::Result<ItemProperties> {
+        take_entry::<ItemProperties, ItemPropertiesShape>(alloc, ENTRY, context, value)
+    }
+}
+
 impl TryClone for ItemProperties {
     fn try_clone(&self) -> Result<ItemProperties> {
         let associations = match &self.associations {
@@ -244,6 +261,14 @@ impl HasFields for Ipma {
     fn show<K: FieldSink>(&self, view: View, sink: &mut K) -> mp4_shown::Result<()> {
         let parts = parts_of!(self => version, flags, entries.as_slice());
         IpmaShape::show(NAMES, view, &parts, sink)
+    }
+}
+
+impl TakeFields for Ipma {
+    ghost taken = { declared_taken ⟦<Ipma as DeclaredBox>⟧.layout (⟦<IpmaShape as TakeShape>⟧.taken NAMES.now) };
+
+    fn take(alloc: Global, object: &mut Object<'_>) -> taken::Result<Ipma> {
+        take_declared::<Ipma, IpmaShape>(alloc, NAMES, object)
     }
 }
 

@@ -7,6 +7,8 @@ ghost use Rattle.mp4_shown.specs.Members.{whole_number};
 ghost use Rattle.mp4_shown.specs.Numbers.{NumberName as SeenName, seen_number, shown_number};
 ghost use Rattle.std.specs.Prelude.{◌≡◌};
 
+mod taken;
+
 use mp4_declared::{Context, PutShape, Shape};
 use mp4_frame::{Result, put_u16, put_u32, u16_at, u32_at};
 use mp4_shown::{FieldSink, NamedShape, NumberName, ShowShape, View, put_number};

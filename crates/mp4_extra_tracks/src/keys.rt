@@ -1,5 +1,7 @@
 //! The metadata item keys box.
 
+ghost use Rattle.mp4_shown.specs.TakenShapes.{entry_made};
+ghost use Rattle.mp4_shown.specs.TakenShapes.{declared_taken};
 ghost use Rattle.mp4_extra_tracks.specs.declared.keys.TheConstants.{KEY, NAMES};
 ghost use Rattle.mp4_frame.specs.declared.codes.TheConstants as codes;
 ghost use Rattle.mp4_shown.specs.Lists.{entry_of};
@@ -9,14 +11,16 @@ ghost use Rattle.mp4_declared.specs.OwnBox.{layout_of};
 ghost use Rattle.mp4_declared.specs.DeclaredEntry.{exact_layout_of};
 
 use mp4_declared::{
-    Code, Declared, DeclaredBox, DeclaredEntry, Each, EntryVisitor, Full, Last, Rest, Shape,
-    ShapeVisitor, U32, WithSize, box_of, clone_each, parts_of,
+    Code, Context, Declared, DeclaredBox, DeclaredEntry, Each, EntryVisitor, Full, Last, Rest,
+    Shape, ShapeVisitor, U32, WithSize, box_of, clone_each, parts_of,
 };
 use mp4_frame::{Entries, FourCC, Result, TryClone, codes};
+use mp4_shown::taken::{self, Object, TakeEntry, TakeFields, TakeShape, take_declared, take_entry};
 use mp4_shown::{
     FLAGS, FieldSink, HasFields, NamedShape, ShowShape, ShownEntry, VERSION, View, list, names_of,
     run,
 };
+use std::alloc::Global;
 
 /// A metadata key.
 #[derive(Debug, Drop, PartialEq, Eq)]
@@ -72,6 +76,15 @@ impl ShownEntry for MetadataKey {
             sink,
         )?;
         sink.end_entry()
+    }
+}
+
+impl TakeEntry for MetadataKey {
+    ghost taken = { λ c j. entry_made ⟦<MetadataKey as DeclaredEntry>⟧.layout.value
+        (⟦<MetadataKeyShape as TakeShape>⟧.taken KEY.now c) j };
+
+    fn take(alloc: Global, context: Context, value: json::Value<'_>) -> taken::Result<MetadataKey> {
+        take_entry::<MetadataKey, MetadataKeyShape>(alloc, KEY, context, value)
     }
 }
 
@@ -137,6 +150,14 @@ impl HasFields for Keys {
     fn show<K: FieldSink>(&self, view: View, sink: &mut K) -> mp4_shown::Result<()> {
         let parts = parts_of!(self => version, flags, entries.as_slice());
         KeysShape::show(NAMES, view, &parts, sink)
+    }
+}
+
+impl TakeFields for Keys {
+    ghost taken = { declared_taken ⟦<Keys as DeclaredBox>⟧.layout (⟦<KeysShape as TakeShape>⟧.taken NAMES.now) };
+
+    fn take(alloc: Global, object: &mut Object<'_>) -> taken::Result<Keys> {
+        take_declared::<Keys, KeysShape>(alloc, NAMES, object)
     }
 }
 

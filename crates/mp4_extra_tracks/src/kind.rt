@@ -1,5 +1,6 @@
 //! The track kind box.
 
+ghost use Rattle.mp4_shown.specs.TakenShapes.{declared_taken};
 ghost use Rattle.mp4_extra_tracks.specs.declared.kind.TheConstants.{NAMES};
 ghost use Rattle.mp4_frame.specs.declared.codes.TheConstants as codes;
 ghost use Rattle.mp4_declared.specs.OwnBox.{layout_of};
@@ -7,9 +8,11 @@ ghost use Rattle.std.proofs.Common.{refl, lit<};
 
 use mp4_declared::declaring::*;
 use mp4_frame::{Result, codes};
+use mp4_shown::taken::{self, Object, TakeFields, TakeShape, take_declared};
 use mp4_shown::{
     FLAGS, FieldSink, HasFields, NamedShape, VERSION, View, names_of, run, show_shape,
 };
+use std::alloc::Global;
 
 /// The role of a track (`kind`, ISO/IEC 14496-12, 8.10.4). In the standard, strings are UTF-8 without a zero byte.
 #[derive(Debug, Drop, PartialEq, Eq)]
@@ -69,6 +72,14 @@ impl HasFields for Kind {
     fn show<K: FieldSink>(&self, view: View, sink: &mut K) -> mp4_shown::Result<()> {
         let parts = parts_of!(self => version, flags, scheme_uri.as_slice(), value.as_slice());
         show_shape::<KindShape, _, K>(NAMES, view, &parts, sink)
+    }
+}
+
+impl TakeFields for Kind {
+    ghost taken = { declared_taken ⟦<Kind as DeclaredBox>⟧.layout (⟦<KindShape as TakeShape>⟧.taken NAMES.now) };
+
+    fn take(alloc: Global, object: &mut Object<'_>) -> taken::Result<Kind> {
+        take_declared::<Kind, KindShape>(alloc, NAMES, object)
     }
 }
 

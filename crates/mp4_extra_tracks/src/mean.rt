@@ -1,5 +1,6 @@
 //! The domain box of a metadata item.
 
+ghost use Rattle.mp4_shown.specs.TakenShapes.{declared_taken};
 ghost use Rattle.mp4_extra_tracks.specs.declared.mean.TheConstants.{NAMES};
 ghost use Rattle.mp4_frame.specs.declared.codes.TheConstants as codes;
 ghost use Rattle.mp4_declared.specs.OwnBox.{layout_of};
@@ -7,7 +8,9 @@ ghost use Rattle.std.proofs.Common.{refl, lit<};
 
 use mp4_declared::declaring::*;
 use mp4_frame::{Result, codes};
+use mp4_shown::taken::{self, Object, TakeFields, TakeShape, take_declared};
 use mp4_shown::{FLAGS, FieldSink, HasFields, NamedShape, ShowShape, VERSION, View, names_of, run};
+use std::alloc::Global;
 
 /// The domain of the name of a metadata item (`mean`, iTunes, metadata). The item has the code `----`, and a `name`
 /// beside this box.
@@ -60,6 +63,14 @@ impl HasFields for Mean {
     fn show<K: FieldSink>(&self, view: View, sink: &mut K) -> mp4_shown::Result<()> {
         let parts = parts_of!(self => version, flags, value.as_slice());
         MeanShape::show(NAMES, view, &parts, sink)
+    }
+}
+
+impl TakeFields for Mean {
+    ghost taken = { declared_taken ⟦<Mean as DeclaredBox>⟧.layout (⟦<MeanShape as TakeShape>⟧.taken NAMES.now) };
+
+    fn take(alloc: Global, object: &mut Object<'_>) -> taken::Result<Mean> {
+        take_declared::<Mean, MeanShape>(alloc, NAMES, object)
     }
 }
 

@@ -1,5 +1,6 @@
 //! The name box of a metadata item.
 
+ghost use Rattle.mp4_shown.specs.TakenShapes.{declared_taken};
 ghost use Rattle.mp4_extra_tracks.specs.declared.name.TheConstants.{NAMES};
 ghost use Rattle.mp4_frame.specs.declared.codes.TheConstants as codes;
 ghost use Rattle.mp4_declared.specs.OwnBox.{layout_of};
@@ -7,7 +8,9 @@ ghost use Rattle.std.proofs.Common.{refl, lit<};
 
 use mp4_declared::declaring::*;
 use mp4_frame::{Result, codes};
+use mp4_shown::taken::{self, Object, TakeFields, TakeShape, take_declared};
 use mp4_shown::{FLAGS, FieldSink, HasFields, NamedShape, ShowShape, VERSION, View, names_of, run};
+use std::alloc::Global;
 
 /// The name of a metadata item (`name`, iTunes, metadata). The item has the code `----`, and a `mean` beside this box.
 /// A `name` elsewhere, such as the name of a track in QuickTime, is another box.
@@ -60,6 +63,14 @@ impl HasFields for Name {
     fn show<K: FieldSink>(&self, view: View, sink: &mut K) -> mp4_shown::Result<()> {
         let parts = parts_of!(self => version, flags, value.as_slice());
         NameShape::show(NAMES, view, &parts, sink)
+    }
+}
+
+impl TakeFields for Name {
+    ghost taken = { declared_taken ⟦<Name as DeclaredBox>⟧.layout (⟦<NameShape as TakeShape>⟧.taken NAMES.now) };
+
+    fn take(alloc: Global, object: &mut Object<'_>) -> taken::Result<Name> {
+        take_declared::<Name, NameShape>(alloc, NAMES, object)
     }
 }
 

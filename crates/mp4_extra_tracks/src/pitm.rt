@@ -1,5 +1,6 @@
 //! The primary item box.
 
+ghost use Rattle.mp4_shown.specs.TakenShapes.{declared_taken};
 ghost use Rattle.mp4_extra_tracks.specs.declared.pitm.TheConstants.{NAMES};
 ghost use Rattle.mp4_frame.specs.declared.codes.TheConstants as codes;
 ghost use Rattle.mp4_declared.specs.OwnBox.{layout_of};
@@ -8,9 +9,11 @@ ghost use Rattle.std.proofs.Common.{refl, lit<};
 use crate::item_id::ItemId;
 use mp4_declared::declaring::*;
 use mp4_frame::{Result, codes};
+use mp4_shown::taken::{self, Object, TakeFields, TakeShape, take_declared};
 use mp4_shown::{
     FLAGS, FieldSink, HasFields, NamedShape, ShowShape, VERSION, View, names_of, number,
 };
+use std::alloc::Global;
 
 /// The item to show first, such as the main image of a file (`pitm`, ISO/IEC 14496-12, 8.11.4).
 #[derive(Clone, Copy, Debug, Drop, PartialEq, Eq)]
@@ -62,6 +65,14 @@ impl HasFields for Pitm {
     fn show<K: FieldSink>(&self, view: View, sink: &mut K) -> mp4_shown::Result<()> {
         let parts = parts_of!(self => version, flags, item_id);
         PitmShape::show(NAMES, view, &parts, sink)
+    }
+}
+
+impl TakeFields for Pitm {
+    ghost taken = { declared_taken ⟦<Pitm as DeclaredBox>⟧.layout (⟦<PitmShape as TakeShape>⟧.taken NAMES.now) };
+
+    fn take(alloc: Global, object: &mut Object<'_>) -> taken::Result<Pitm> {
+        take_declared::<Pitm, PitmShape>(alloc, NAMES, object)
     }
 }
 

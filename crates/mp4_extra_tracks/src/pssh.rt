@@ -9,6 +9,8 @@ ghost use Rattle.std.proofs.Common.{refl, lit<};
 ghost use Rattle.std.specs.Prelude.{◌≡◌, OnOk};
 ghost use Rattle.mp4_declared.specs.OwnBox.{layout_of};
 
+mod taken;
+
 use mp4_declared::{
     Array, Bytes, Declared, DeclaredBox, FromVersion, Full, If, Last, Rows, Shape, ShapeVisitor,
     U32, box_of, parts_of,

@@ -1,5 +1,6 @@
 //! The scheme type box.
 
+ghost use Rattle.mp4_shown.specs.TakenShapes.{declared_taken};
 ghost use Rattle.mp4_extra_tracks.specs.declared.schm.TheConstants.{NAMES};
 ghost use Rattle.mp4_frame.specs.declared.codes.TheConstants as codes;
 ghost use Rattle.std.proofs.Common.{refl, lit<};
@@ -10,9 +11,11 @@ use mp4_declared::{
     parts_of,
 };
 use mp4_frame::{Entries, FourCC, Result, TryClone, codes};
+use mp4_shown::taken::{self, Object, TakeFields, TakeShape, take_declared};
 use mp4_shown::{
     FieldSink, HasFields, Meaning, NamedShape, ShowShape, VERSION, View, names_of, number, run,
 };
+use std::alloc::Global;
 
 /// The scheme that protects the media (`schm`, ISO/IEC 14496-12, 8.12.5).
 #[derive(Debug, Drop, PartialEq, Eq)]
@@ -86,6 +89,14 @@ impl HasFields for Schm {
         };
         let parts = parts_of!(self => version, flags, scheme_type, scheme_version, = scheme_uri);
         SchmShape::show(NAMES, view, &parts, sink)
+    }
+}
+
+impl TakeFields for Schm {
+    ghost taken = { declared_taken ⟦<Schm as DeclaredBox>⟧.layout (⟦<SchmShape as TakeShape>⟧.taken NAMES.now) };
+
+    fn take(alloc: Global, object: &mut Object<'_>) -> taken::Result<Schm> {
+        take_declared::<Schm, SchmShape>(alloc, NAMES, object)
     }
 }
 

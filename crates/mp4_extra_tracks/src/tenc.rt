@@ -1,5 +1,6 @@
 //! The track encryption box.
 
+ghost use Rattle.mp4_shown.specs.TakenShapes.{declared_taken};
 ghost use Rattle.mp4_extra_tracks.specs.declared.tenc.TheConstants.{NAMES, WIDTHS};
 ghost use Rattle.mp4_frame.specs.declared.codes.TheConstants as codes;
 ghost use Rattle.std.proofs.Common.{refl, lit<};
@@ -11,10 +12,12 @@ use mp4_declared::{
     Rest, Shape, ShapeVisitor, U8, box_of, entry_of, numbers_of, parts_of,
 };
 use mp4_frame::{Entries, Result, TryClone, codes};
+use mp4_shown::taken::{self, Object, TakeFields, TakeShape, take_declared};
 use mp4_shown::{
     FLAGS, FieldSink, HasFields, NamedShape, NumberName, ShowShape, VERSION, View, names_of,
     number, run,
 };
+use std::alloc::Global;
 
 /// The pattern of encrypted blocks in a sample: some encrypted blocks, then some clear blocks, repeated.
 #[derive(Clone, Copy, Debug, Default, PartialEq, Eq)]
@@ -138,6 +141,14 @@ impl HasFields for Tenc {
         let parts = parts_of!(self => version, flags, default_pattern, default_is_protected,
             default_per_sample_iv_size, default_kid, default_constant_iv.as_slice());
         TencShape::show(NAMES, view, &parts, sink)
+    }
+}
+
+impl TakeFields for Tenc {
+    ghost taken = { declared_taken ⟦<Tenc as DeclaredBox>⟧.layout (⟦<TencShape as TakeShape>⟧.taken NAMES.now) };
+
+    fn take(alloc: Global, object: &mut Object<'_>) -> taken::Result<Tenc> {
+        take_declared::<Tenc, TencShape>(alloc, NAMES, object)
     }
 }
 

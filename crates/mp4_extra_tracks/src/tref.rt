@@ -1,5 +1,7 @@
 //! The track reference box.
 
+ghost use Rattle.mp4_shown.specs.TakenShapes.{entry_made};
+ghost use Rattle.mp4_shown.specs.TakenShapes.{declared_taken};
 ghost use Rattle.mp4_extra_tracks.specs.declared.tref.TheConstants.{NAMES, REFERENCE};
 ghost use Rattle.mp4_frame.specs.declared.codes.TheConstants as codes;
 ghost use Rattle.mp4_shown.specs.Lists.{entry_of};
@@ -9,11 +11,13 @@ ghost use Rattle.mp4_declared.specs.OwnBox.{layout_of};
 ghost use Rattle.mp4_declared.specs.DeclaredEntry.{exact_layout_of};
 
 use mp4_declared::{
-    Code, Declared, DeclaredBox, DeclaredEntry, EachToEnd, EntryVisitor, Last, Numbers, Shape,
-    ShapeVisitor, WithSize, box_of, clone_each, parts_of,
+    Code, Context, Declared, DeclaredBox, DeclaredEntry, EachToEnd, EntryVisitor, Last, Numbers,
+    Shape, ShapeVisitor, WithSize, box_of, clone_each, parts_of,
 };
 use mp4_frame::{Entries, FourCC, Result, TryClone, codes};
+use mp4_shown::taken::{self, Object, TakeEntry, TakeFields, TakeShape, take_declared, take_entry};
 use mp4_shown::{FieldSink, HasFields, NamedShape, ShowShape, ShownEntry, View, list, names_of};
+use std::alloc::Global;
 
 /// The tracks that a track refers to by one type of reference. In the file it is a box whose code is the type.
 #[derive(Debug, Drop, PartialEq, Eq)]
@@ -80,6 +84,19 @@ impl ShownEntry for TrackReference {
     }
 }
 
+impl TakeEntry for TrackReference {
+    ghost taken = { λ c j. entry_made ⟦<TrackReference as DeclaredEntry>⟧.layout.value
+        (⟦<TrackReferenceShape as TakeShape>⟧.taken REFERENCE.now c) j };
+
+    fn take(
+        alloc: Global,
+        context: Context,
+        value: json::Value<'_>,
+    ) -> taken::Result<TrackReference> {
+        take_entry::<TrackReference, TrackReferenceShape>(alloc, REFERENCE, context, value)
+    }
+}
+
 impl TryClone for TrackReference {
     fn try_clone(&self) -> Result<TrackReference> {
         Ok(TrackReference {
@@ -133,6 +150,14 @@ impl HasFields for Tref {
 
     fn show<K: FieldSink>(&self, view: View, sink: &mut K) -> mp4_shown::Result<()> {
         TrefShape::show(NAMES, view, &parts_of!(self => references.as_slice()), sink)
+    }
+}
+
+impl TakeFields for Tref {
+    ghost taken = { declared_taken ⟦<Tref as DeclaredBox>⟧.layout (⟦<TrefShape as TakeShape>⟧.taken NAMES.now) };
+
+    fn take(alloc: Global, object: &mut Object<'_>) -> taken::Result<Tref> {
+        take_declared::<Tref, TrefShape>(alloc, NAMES, object)
     }
 }
 

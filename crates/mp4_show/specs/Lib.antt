@@ -19,3 +19,11 @@ pub mod Lines
 pub mod Dates
 pub mod Values
 pub mod TextTrace
+pub mod TakenShapes
+pub mod TakenFlat
+pub mod TakenTables
+pub mod TakenFragments
+pub mod TakenText
+pub mod TakenEntries
+pub mod TakenSound
+pub mod TakenCodec

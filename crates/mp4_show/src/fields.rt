@@ -13,6 +13,7 @@ mod tracks;
 
 use crate::box_fields::BoxFields;
 pub(crate) use media::URL;
+pub use metadata::{DATA_TYPES, integer, integer_width};
 use mp4_shown::{FieldSink, Result, View};
 use mp4_stream::{
     AnyBox, Avc1Box, AvcCBox, Co64Box, CttsBox, DataBox, DinfBox, DrefBox, ElstBox, EmsgBox,

@@ -17,6 +17,7 @@ mod number_text;
 mod placed;
 mod row;
 mod sound_front;
+mod taken;
 mod text_sink;
 mod value;
 mod value_text;
@@ -25,6 +26,7 @@ pub use box_fields::{BoxFields, put_fields};
 pub use code::push_code;
 pub use escape::{is_escaped, push_escaped};
 pub use escaped_json::json_text;
+pub use fields::{DATA_TYPES, integer, integer_width};
 pub use fronts::{
     put_entry, put_full_head, put_list_head, put_reference, put_terminator, put_usertype,
     put_visual,
@@ -33,4 +35,5 @@ pub use look::Look;
 pub use mp4_shown::{Result, Value};
 pub use number_text::push_number;
 pub use sound_front::put_sound;
+pub use taken::{TakenByType, read_codec};
 pub use text_sink::{TextSink, columns, push_colored};

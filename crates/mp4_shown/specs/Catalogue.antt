@@ -1,6 +1,6 @@
--- The types of declared boxes that an enum holds. A box is read and written, and its fields are shown, by the
--- declaration of its type. Its code determines its type.
-use Rattle.std.specs.Prelude.{◌≡◌, ℕ, ◌==◌, if◌then◌else◌, true, List, [], ◌∷◌, Option, None, Some}
+-- The types of declared boxes that an enum holds. A box is read and written, its fields are shown, and it is taken back
+-- out of JSON, by the declaration of its type. Its code determines its type.
+use Rattle.std.specs.Prelude.{◌≡◌, ℕ, ◌==◌, if◌then◌else◌, true, List, [], ◌∷◌, Option, None, Some, Ok}
 use Rattle.mp4_declared.specs.Shape.{Shape}
 use Rattle.mp4_declared.specs.ShapeLaws.{IsShape}
 use Rattle.mp4_declared.specs.OwnBox.{OwnLayout, reads_declared, format_declared}
@@ -12,6 +12,9 @@ use Rattle.mp4_frame.specs.Members.{Kind, kind, Known, Unknown, Is, Inside, boxe
 use Rattle.mp4_shown.specs.Event.{Event}
 use Rattle.mp4_shown.specs.Members.{AreMembers}
 use Rattle.mp4_shown.specs.declared.view.View.{View}
+use Rattle.mp4_shown.specs.Taking.{Taking, ◌>>=◌}
+use Rattle.mp4_shown.specs.TakenShapes.{Takes, document_made}
+use Rattle.json.specs.Json.{Json}
 
 -- the declaration of the boxes with a code, and of their fields
 pub record Declaration (code : ℕ) (V : Type 0) : Type 1 where
@@ -21,17 +24,20 @@ pub record Declaration (code : ℕ) (V : Type 0) : Type 1 where
   pub laws : IsShape shape
   pub shown : View → V → List Event
   pub whole : (view : View) (v : V) → AreMembers (shown view v)
+  pub taken : Takes V
 
 -- the declaration with this layout and a shape with these laws
 abbrev pub declared_as : {code : ℕ} {A V : Type 0} {shape : Shape A} → IsShape shape → OwnLayout code A V
-    → (shown : View → V → List Event) → ((view : View) (v : V) → AreMembers (shown view v)) → Declaration code V
-declared_as {code} {A} {V} {shape} laws layout shown whole = record {
+    → (shown : View → V → List Event) → ((view : View) (v : V) → AreMembers (shown view v)) → Takes V
+    → Declaration code V
+declared_as {code} {A} {V} {shape} laws layout shown whole taken = record {
   Content = A;
   shape = shape;
   layout = layout;
   laws = laws;
   shown = shown;
   whole = whole;
+  taken = taken;
 }
 
 -- the reading and the format of the boxes with a declaration
@@ -101,3 +107,15 @@ module _ {T E : Type 0} (c : Catalogue T E) (declared : Declarations c) where
 
   abbrev pub whole : (view : View) (v : E) → AreMembers (shown view v)
   whole view v = (declared (c.opened v).0).is.whole view (c.opened v).1
+
+  -- the box that a text is, of a type
+  abbrev pub type_document : T → Option Json → Taking E
+  type_document t j = document_made (c.entry_of t).wrap (declared t).is.taken j
+
+  abbrev pub document_if : Option T → Option Json → Taking (Option E)
+  document_if None j = Ok None
+  document_if (Some t) j = type_document t j >>= λ b. Ok (Some b)
+
+  -- the box that a text is, of the type with a code, if there is one
+  abbrev pub code_document : ℕ → Option Json → Taking (Option E)
+  code_document code j = document_if (c.of_code code) j

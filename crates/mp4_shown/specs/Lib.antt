@@ -7,5 +7,17 @@ pub mod Lists
 pub mod Shapes
 pub mod Members
 pub mod Pieces
+pub mod Taking
+pub mod TakingLaws
+pub mod TakenReasons
+pub mod Decimal
+pub mod TakenValues
+pub mod Object
+pub mod TakenPlaces
+pub mod TakenNumbers
+pub mod TakenRuns
+pub mod TakenLists
+pub mod TakenPieces
+pub mod TakenShapes
 pub mod Catalogue
 pub mod CatalogueLaws

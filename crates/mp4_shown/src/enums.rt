@@ -5,11 +5,15 @@ ghost use Rattle.std.specs.Prelude.{◌≡◌, ℕ, ◌+◌, ◌-◌, ◌≤◌,
 ghost use Rattle.mp4_frame.specs.Members.{some_box};
 ghost use Rattle.mp4_frame.specs.Reading.{Answers, map_reading, reading};
 ghost use Rattle.mp4_shown.specs.Catalogue.{Catalogue, Declaration, Declarations, declared_as, format_as, inside};
-ghost use Rattle.mp4_shown.specs.Catalogue.{reads_as, shown};
+ghost use Rattle.mp4_shown.specs.Catalogue.{reads_as, shown, type_document};
 ghost use Rattle.mp4_shown.specs.Hands.{Hands};
+ghost use Rattle.mp4_shown.specs.TakenShapes.{document_made};
+ghost use Rattle.mp4_shown.specs.Taking.{TakesAs};
+ghost use Rattle.json.specs.Json.{document};
 
 use crate::field_sink::FieldSink;
 use crate::has_fields::HasFields;
+use crate::taken::{self, TakeFields, read_box};
 use crate::view::View;
 use mp4_declared::{Declared, DeclaredBox};
 use mp4_frame::{BoxVisitor, ByteCursor, Holds, Result, read_as};
@@ -22,10 +26,10 @@ pub trait Described {
     ghost declaration: { Declaration CODE Self };
 }
 
-impl<T: DeclaredBox + HasFields> Described for T {
+impl<T: DeclaredBox + HasFields + TakeFields> Described for T {
     ghost CODE = { T.CODE };
 
-    ghost declaration = { declared_as T.Shape.shape_laws T.layout T.shown T.whole };
+    ghost declaration = { declared_as T.Shape.shape_laws T.layout T.shown T.whole T.TakeFields.taken };
 }
 
 /// For the prover: an enum of declared boxes, with the declarations of all its types.
@@ -41,7 +45,7 @@ pub trait Catalogued: Sized {
 /// Visits a declared box, like `BoxVisitor::visit`. It is faster to prove than a call of `Q::visit`, which repeats the
 /// declaration of `T` for each trait of a box.
 #[inline]
-fn visit_declared<Q: BoxVisitor, T: DeclaredBox + HasFields>(
+fn visit_declared<Q: BoxVisitor, T: DeclaredBox + HasFields + TakeFields>(
     value: &Declared<T>,
     out: &mut [u8],
 ) -> Q::Answer
@@ -53,11 +57,11 @@ fn visit_declared<Q: BoxVisitor, T: DeclaredBox + HasFields>(
 
 /// Visits `value`, the box inside `held`, like `BoxVisitor::visit`. An arm that calls it needs no answer.
 #[inline]
-pub fn visit_held<Q: BoxVisitor, T: DeclaredBox + HasFields, E: Catalogued + Holds<Declared<T>>>(
-    held: &E,
-    value: &Declared<T>,
-    out: &mut [u8],
-) -> Q::Answer
+pub fn visit_held<
+    Q: BoxVisitor,
+    T: DeclaredBox + HasFields + TakeFields,
+    E: Catalogued + Holds<Declared<T>>,
+>(held: &E, value: &Declared<T>, out: &mut [u8]) -> Q::Answer
     requires is { held.now ≡ E.wrapped value.now }
     requires can { Q.can_visit (inside E.catalogue E.declared held.now).box (length out.old) }
     requires can_alike { Q.can_visit (inside E.catalogue E.declared (E.wrapped value.now)).box (length out.old)
@@ -72,12 +76,11 @@ pub fn visit_held<Q: BoxVisitor, T: DeclaredBox + HasFields, E: Catalogued + Hol
 
 /// Shows `value`, the box inside `held`, like `HasFields::show`. An arm that calls it needs no answer.
 #[inline]
-pub fn show_held<T: DeclaredBox + HasFields, E: Catalogued + Holds<Declared<T>>, K: FieldSink>(
-    held: &E,
-    value: &Declared<T>,
-    view: View,
-    sink: &mut K,
-) -> crate::Result<()>
+pub fn show_held<
+    T: DeclaredBox + HasFields + TakeFields,
+    E: Catalogued + Holds<Declared<T>>,
+    K: FieldSink,
+>(held: &E, value: &Declared<T>, view: View, sink: &mut K) -> crate::Result<()>
     requires is { held.now ≡ E.wrapped value.now }
     requires alike { shown E.catalogue E.declared view (E.wrapped value.now) ≡ T.shown view value.now }
     ensures { OnOk result (Hands K.trace K.after sink.old (shown E.catalogue E.declared view held.now) sink.new) }
@@ -87,7 +90,7 @@ pub fn show_held<T: DeclaredBox + HasFields, E: Catalogued + Holds<Declared<T>>,
 
 /// Reads a declared box, like `read_as`.
 #[inline]
-pub fn read_declared<T: DeclaredBox + HasFields, E: Holds<Declared<T>>>(
+pub fn read_declared<T: DeclaredBox + HasFields + TakeFields, E: Holds<Declared<T>>>(
     alloc: Global,
     reader: &mut ByteCursor,
     size: u64,
@@ -100,6 +103,32 @@ pub fn read_declared<T: DeclaredBox + HasFields, E: Holds<Declared<T>>>(
     ensures bytes { reader.new.bytes ≡ reader.old.bytes }
 {
     read_as::<Declared<T>, E>(alloc, reader, size)
+}
+
+/// Returns the declared box with the fields of a `T` whose JSON is `text`, as an `E`.
+#[inline]
+fn take_as<T: TakeFields, E: Holds<Declared<T>>>(alloc: Global, text: &str) -> taken::Result<E>
+    ensures { TakesAs (λ b. b) result (document_made E.wrapped T.taken (document text.now)) }
+{
+    let fields: T = read_box(alloc, text)?;
+    Ok(E::wrap(Declared::new(fields)))
+}
+
+/// Returns the box of the type `of` whose JSON is `text`. The type is `kind`, whose fields are a `T`. An arm that
+/// calls it needs no answer.
+#[inline]
+pub fn take_held<T: DeclaredBox + HasFields + TakeFields, E: Catalogued + Holds<Declared<T>>>(
+    of: E::Of,
+    kind: E::Of,
+    alloc: Global,
+    text: &str,
+) -> taken::Result<E>
+    requires is { of ≡ kind }
+    requires alike { type_document E.catalogue E.declared kind (document text.now)
+        ≡ document_made E.wrapped T.TakeFields.taken (document text.now) }
+    ensures { TakesAs (λ b. b) result (type_document E.catalogue E.declared of (document text.now)) }
+{
+    take_as::<T, E>(alloc, text)
 }
 
 /// Matches on a value of the enum `$enum` with the same arm for each variant: it binds the box inside and evaluates the
@@ -149,6 +178,17 @@ macro_rules! show_each {
         $sink:expr) => {
         match $value {
             $($enum::$held(inside) => $crate::show_held::<$fields, $enum, $sink_type>($value, inside, $view, $sink),)*
+        }
+    };
+}
+
+/// Matches on a type with an arm for each type, which takes a box of this type out of JSON as a value of `$enum`.
+#[macro_export]
+macro_rules! take_by_type {
+    ([$($fields:ident $held:ident $($code:ident)::+),*] $types:ident, $enum:ident, $of:expr, $alloc:expr,
+        $text:expr) => {
+        match $of {
+            $($types::$held => $crate::take_held::<$fields, $enum>($of, $types::$held, $alloc, $text),)*
         }
     };
 }

@@ -1,6 +1,7 @@
 //! For authors of box types: hands the fields of a box to a sink, each by the name that the standard gives it. What is
-//! handed over follows from the shape of the box and the names of its fields. For enums of such boxes there are the
-//! definition of their types, its laws, and macros over the list of the types.
+//! handed over follows from the shape of the box and the names of its fields. So does how a box is taken back from
+//! JSON. For enums of such boxes there are the definition of their types, its laws, and macros over the list of the
+//! types.
 #![tactic(auto)]
 
 mod bytes;
@@ -25,6 +26,7 @@ mod pieces;
 mod rows;
 mod show;
 mod signed;
+pub mod taken;
 mod tuple;
 mod typed;
 mod value;
@@ -32,7 +34,7 @@ mod view;
 
 pub use bytes_name::{BytesAs, BytesName, put_bytes};
 pub use entries::{EntriesOf, ShownEntry};
-pub use enums::{Catalogued, Described, read_declared, show_held, visit_held};
+pub use enums::{Catalogued, Described, read_declared, show_held, take_held, visit_held};
 pub use field_sink::{FieldSink, Result};
 pub use group::Group;
 pub use has_fields::{HasFields, put_fields};

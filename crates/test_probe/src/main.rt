@@ -26,16 +26,21 @@
 //! 13. The result of `list_boxes` at the position, which lists the spans of the boxes.
 //! 14. The structure of the trees of 9. The text is empty after a fault.
 //!
-//! With an argument the bytes of each record of the input are a file, and it gives one record of the output: the text
-//! of its movie (`movie.rt`).
+//! With the argument `movies` the bytes of each record of the input are a file, and it gives one record of the output:
+//! the text of its movie (`movie.rt`). With the argument `json` the position is the code of a box, and the bytes are
+//! its JSON. The two records of the output have the bytes that are written of the declared box and of the codec's, or
+//! why the JSON is refused (`taken.rt`). With the argument `back` the record of the output has a line for each box in
+//! the bytes: `same`, if the JSON that is shown of the box gives the box back.
 #![tactic(auto)]
 
 mod declared;
 mod movie;
 mod structure;
+mod taken;
 
 use crate::declared::{show_declared, show_trees};
 use crate::movie::show_movie;
+use crate::taken::{show_back, show_taken};
 use mp4_box_tree::AllBoxes;
 use mp4_stream::{
     AnyBox, BoxHeader, BoxType, ByteCursor, EsdsBox, KeptBox, StreamBox, list_boxes, read_boxes_as,
@@ -188,15 +193,39 @@ fn show_all(
     push_bytes(&structure, out)
 }
 
-/// Returns whether the program has an argument.
-fn has_argument(rt: &HostRuntime) -> io::Result<bool> {
+/// The kinds of text that the program prints for a record.
+#[derive(Clone, Copy)]
+enum Shown {
+    /// The boxes that are read.
+    Boxes,
+    /// The text of its movie.
+    Movie,
+    /// The box that is made of its JSON.
+    Json,
+    /// A line for each box, by the JSON that is shown of it.
+    Back,
+}
+
+/// Returns what is shown of each record, by the program's argument.
+fn shown_by(rt: &HostRuntime) -> io::Result<Shown> {
     let mut words = env::args(rt)?;
     let _program = words.next();
-    Ok(words.next().is_some())
+    Ok(match words.next() {
+        None => Shown::Boxes,
+        Some(word) => {
+            if word.as_str() == "json" {
+                Shown::Json
+            } else if word.as_str() == "back" {
+                Shown::Back
+            } else {
+                Shown::Movie
+            }
+        }
+    })
 }
 
 fn main(rt: HostRuntime) -> io::Result<()> {
-    let are_movies = has_argument(&rt)?;
+    let by = shown_by(&rt)?;
     let mut input = Vec::new(rt.alloc());
     rt.stdin().read_to_end(&mut input)?;
     let mut out = Vec::new(rt.alloc());
@@ -205,10 +234,11 @@ fn main(rt: HostRuntime) -> io::Result<()> {
         let Some((position, bytes, after)) = first_record(rest) else {
             break;
         };
-        if are_movies {
-            show_movie(rt.alloc(), bytes, &mut out)?;
-        } else {
-            show_all(rt.alloc(), position, bytes, &mut out)?;
+        match by {
+            Shown::Boxes => show_all(rt.alloc(), position, bytes, &mut out)?,
+            Shown::Movie => show_movie(rt.alloc(), bytes, &mut out)?,
+            Shown::Json => show_taken(rt.alloc(), position, bytes, &mut out)?,
+            Shown::Back => show_back(rt.alloc(), position, bytes, &mut out)?,
         }
         rest = after;
     }

@@ -1,9 +1,10 @@
 //! The fields of metadata and of events.
 
-ghost use Rattle.std.specs.Prelude.{◌≡◌, ◌++◌, OnOk};
+ghost use Rattle.std.specs.Prelude.{◌≡◌, ◌==◌, ◌≤◌, ◌++◌, OnOk, length};
 ghost use Rattle.mp4_media.specs.DataType.{number_data_type};
 ghost use Rattle.mp4_show.specs.BoxRows.{data_row, emsg_row};
-ghost use Rattle.mp4_show.specs.Metadata.{integer, shown_integer, shown_value, whole_value};
+ghost use Rattle.mp4_show.specs.Metadata.{integer, integer_width, number_and_bytes, shown_integer, shown_value};
+ghost use Rattle.mp4_show.specs.Metadata.{whole_value};
 ghost use Rattle.mp4_show.specs.Row.{shown_row, whole_row};
 ghost use Rattle.mp4_show.specs.declared.fields.metadata.TheConstants.{DATA, EMSG};
 ghost use Rattle.mp4_shown.specs.Hands.{Hands};
@@ -12,11 +13,14 @@ ghost use Rattle.mp4_shown.specs.Members.{members_append};
 use crate::box_fields::BoxFields;
 use crate::row::{Part, field, put_row};
 use mp4_frame::{i8_at, i16_at, i32_at};
-use mp4_shown::{FLAGS, FieldSink, Meaning, NumberName, Result, VERSION, Value, View, number};
+use mp4_shown::{
+    BytesName, FLAGS, FieldSink, Meaning, NumberName, Result, VERSION, Value, View, number,
+    put_bytes, run,
+};
 use mp4_stream::{DataBox, DataType, EmsgBox};
 
 /// The types of metadata values that the codec reads (QuickTime File Format, "Well-known types").
-const DATA_TYPES: &[Meaning] = &[
+pub const DATA_TYPES: &[Meaning] = &[
     (0, "binary"),
     (1, "text"),
     (13, "JPEG"),
@@ -35,8 +39,8 @@ fn number_data_type(data_type: &DataType) -> u32
     }
 }
 
-/// Returns the signed number in 1, 2 or 4 bytes.
-fn integer(bytes: &[u8]) -> Option<i64>
+/// Returns the signed number in 1, 2 or 4 bytes, or `None` if there are more bytes or fewer.
+pub fn integer(bytes: &[u8]) -> Option<i64>
     ensures { result ≡ integer bytes.now }
 {
     if bytes.len() == 1 {
@@ -50,22 +54,51 @@ fn integer(bytes: &[u8]) -> Option<i64>
     }
 }
 
+/// Returns the least of 1, 2 and 4 bytes that have room for `number`.
+pub fn integer_width(number: i64) -> usize
+    ensures value { result ≡ integer_width number }
+    ensures few { result ≤ 4 }
+{
+    if -(1 << 7) <= number && number <= (1 << 7) - 1 {
+        1
+    } else if -(1 << 15) <= number && number <= (1 << 15) - 1 {
+        2
+    } else {
+        4
+    }
+}
+
+/// Hands `number` to a sink, and its `bytes` unless it needs as many.
+fn put_with_bytes<K: FieldSink>(number: i64, bytes: &[u8], sink: &mut K) -> Result<()>
+    ensures { OnOk result (Hands K.trace K.after sink.old
+        (number_and_bytes (length bytes.now == integer_width number) number bytes.now) sink.new) }
+{
+    sink.field("number", Value::Signed(number))?;
+    if bytes.len() == integer_width(number) {
+        return Ok(());
+    }
+    sink.field("number_hex", Value::Bytes(bytes))
+}
+
 /// Hands `number` to a sink, or `bytes` if there is none.
 fn put_integer<K: FieldSink>(number: Option<i64>, bytes: &[u8], sink: &mut K) -> Result<()>
     ensures { OnOk result (Hands K.trace K.after sink.old (shown_integer number bytes.now) sink.new) }
 {
     match number {
         None => sink.field("data_bytes", Value::Bytes(bytes)),
-        Some(number) => sink.field("number", Value::Signed(number)),
+        Some(number) => put_with_bytes(number, bytes, sink),
     }
 }
+
+/// The name of a value that is a text.
+const TEXT: BytesName = run!("text", Text);
 
 /// Hands a metadata value to a sink, of the type with the number `data_type`.
 fn put_value<K: FieldSink>(data_type: u32, bytes: &[u8], sink: &mut K) -> Result<()>
     ensures { OnOk result (Hands K.trace K.after sink.old (shown_value data_type bytes.now) sink.new) }
 {
     if data_type == 1 {
-        return sink.field("text", Value::Text(bytes));
+        return put_bytes(TEXT, 0, bytes, sink);
     }
     if data_type == 21 {
         return put_integer(integer(bytes), bytes, sink);

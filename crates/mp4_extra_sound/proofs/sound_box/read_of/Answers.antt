@@ -3,6 +3,7 @@ use Rattle.mp4_shown.proofs.EqualTypes.{same_reading}
 use Rattle.mp4_extra_sound.specs.SoundBox.{sound_types}
 use Rattle.mp4_extra_sound.specs.contracts.sound_box.SoundBoxCatalogued.TheImpl.{ghosts}
 use Rattle.mp4_extra_sound.specs.declared.sound_box.SoundType.TheVariants as types
+use Rattle.mp4_extra_sound.proofs.Tx3gReading.{tx3g_read}
 use Rattle.mp4_extra_sound.proofs.sound_box.read_of.Goals as goal
 
 pub returns-in-AlacBox-clause-answer : goal.returns-in-AlacBox-clause-answer
@@ -112,6 +113,13 @@ returns-in-TextBox-clause-answer c =
     same_reading sound_types ghosts.declared c.args.of types.TextBox c.read_declared-in-TextBox.result
     c.args.reader.now.bytes.now (c.args.reader.now.position - 8) c.args.size c.in-TextBox.is
     c.read_declared-in-TextBox.ensures.answer
+
+pub returns-in-Tx3gBox-clause-answer : goal.returns-in-Tx3gBox-clause-answer
+returns-in-Tx3gBox-clause-answer c =
+    same_reading sound_types ghosts.declared c.args.of types.Tx3gBox c.read_declared-in-Tx3gBox.result
+    c.args.reader.now.bytes.now (c.args.reader.now.position - 8) c.args.size c.in-Tx3gBox.is
+    (tx3g_read c.read_declared-in-Tx3gBox.result c.args.reader.now.bytes.now (c.args.reader.now.position - 8)
+    c.args.size c.read_declared-in-Tx3gBox.ensures.answer)
 
 pub returns-in-WvttBox-clause-answer : goal.returns-in-WvttBox-clause-answer
 returns-in-WvttBox-clause-answer c =

@@ -1,0 +1,2 @@
+mod LayerBits
+mod Tx3gReading
