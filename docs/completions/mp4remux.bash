@@ -3,12 +3,12 @@
 _mp4remux() {
     local word=${COMP_WORDS[COMP_CWORD]} command=${COMP_WORDS[1]} words
     case ${COMP_WORDS[COMP_CWORD - 1]} in
-        --duration | --remove | --brand | --language | --rotate | --enable | --disable | --drop-track | --title | --tag | --from | --to) return ;;
+        --duration | --remove | --set | --brand | --language | --rotate | --enable | --disable | --drop-track | --title | --tag | --from | --to) return ;;
     esac
     case $command in
         edit)
-            words="--remove --insert --replace --brand --language --rotate --enable --disable --drop-track --no-tags"
-            words+=" --title --tag --cover --help" ;;
+            words="--remove --insert --replace --set --brand --language --rotate --enable --disable --drop-track"
+            words+=" --no-tags --title --tag --cover --help" ;;
         fragment) words="--duration --sidx --mfra --segments --help" ;;
         cut) words="--from --to --help" ;;
         help) words="faststart edit fragment defragment cut" ;;

@@ -138,7 +138,7 @@ class Cuts:
         return after
 
     def edits(self, name, data, begin, end, runs, edits, durations):
-        """Cuts the file `data`, and checks the runs, the edits and the durations, which were worked out by hand.
+        """Cuts the file `data`, and checks its runs, edits and durations against typed values.
         Durations of the movie are in milliseconds."""
         after = self.cut(name, data, begin, end, runs)
         wanted = ([[(ticks(duration), time) for duration, time in those] for those in edits],
@@ -162,7 +162,7 @@ class Cuts:
 
 
 def by_hand(cuts, random_):
-    """Cuts files, and compares the parts with those that were worked out by hand."""
+    """Cuts files, and compares the parts with typed samples and edits."""
     one, two = Track(1, video([4, 4, 4])), Track(2, sound(40), b"soun")
     data = made(random_, [one, two])
     # The frames begin at 0, 100, .., and every fourth is a sync sample. The sounds begin at 0, 40, ..

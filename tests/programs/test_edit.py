@@ -6,6 +6,8 @@ one with readers/samples.py.
   bits and offsets of each kind follow. A stco with an offset that would not fit becomes a co64.
 - Each shortcut: brands, languages, rotations, flags of tracks, tags and covers, dropped tracks with tables and
   fragments.
+- Fields that are set: numbers, fixed-point numbers, codes, texts, entries and whole lists. The new bytes are worked out
+  from the standards.
 - Each refusal is expected with its text. Then nothing is written, and existing files are unchanged.
 - Wrong values of options, and files that can't be read or have no boxes.
 - OUT can be a pipe.
@@ -213,11 +215,11 @@ class Edits(Runs):
         if (done.returncode, done.stdout, done.stderr) != (status, out, error):
             fail(f"{words}: {done.returncode}, {done.stdout!r}, {done.stderr!r}\nand not\n{status}, {out!r}, {error!r}")
 
-    def edits(self, what, data, expected, *words, dropped=()):
+    def edits(self, what, data, expected, *words, dropped=(), count=None):
         """Edits the file `data` and expects the file `expected`. Its tracks keep their samples, without the `dropped`
-        ones, by their place."""
+        ones, by their place. `count` is the number of edits, or None for that of the options."""
         self.write("in.mp4", data)
-        count = sum(it.startswith("--") for it in words)
+        count = sum(it.startswith("--") for it in words) if count is None else count
         said = "1 edit is made" if count == 1 else f"{count} edits are made"
         self.run(0, f"out.mp4: {said}\n", "", "in.mp4", "out.mp4", *words)
         after = self.read("out.mp4")
@@ -460,6 +462,163 @@ def tags(runs, random_):
         model.remove(path)
     runs.edits("no texts", data, model.done(), "--no-tags")
     runs.edits("no tags were there", plain, plain, "--no-tags")
+
+
+def packed(language):
+    """Returns three letters as an mdhd has them: five bits each (ISO/IEC 14496-12, 8.4.2.3)."""
+    first, second, third = (ord(it) - 0x60 for it in language)
+    return be(2, first << 10 | second << 5 | third)
+
+
+# The rows of `settings`: an option, the path of the box, the byte of its content at which it changes, and the new
+# bytes. Fixed-point numbers of rate and width have 16 bits after the point, those of volume 8 (8.2.2, 8.3.2).
+FIELDS = [
+    ("moov/mvhd.rate=2", "moov/mvhd", 32, be(4, 0x20000)),
+    ("moov/mvhd.rate=0.5", "moov/mvhd", 32, be(4, 0x8000)),
+    ("moov/mvhd.volume=1", "moov/mvhd", 36, be(2, 0x100)),
+    ("moov/mvhd.creation_time=18446744073709551615", "moov/mvhd", 4, be(8, -1)),
+    ("moov/mvhd.flags=16777215", "moov/mvhd", 1, be(3, -1)),
+    ("moov/trak/tkhd.layer=-3", "moov/trak/tkhd", 32, be(2, -3)),
+    ("moov/trak[1]/tkhd.flags=3", "moov/trak[1]/tkhd", 1, be(3, 3)),
+    ("moov/trak[1]/tkhd.matrix.a=-1", "moov/trak[1]/tkhd", 40, be(4, -0x10000)),
+    ("moov/trak[1]/tkhd.matrix.w=0.5", "moov/trak[1]/tkhd", 72, be(4, 0x20000000)),
+    ("moov/trak[1]/tkhd.width=1.5", "moov/trak[1]/tkhd", 76, be(4, 0x18000)),
+    ("moov/trak/mdia/mdhd.language=deu", "moov/trak/mdia/mdhd", 20, packed("deu")),
+    ('moov/trak/mdia/mdhd.language="fra"', "moov/trak/mdia/mdhd", 20, packed("fra")),
+    ("ftyp.minor_version=7", "ftyp", 4, be(4, 7)),
+    ("ftyp.major_brand=mp42", "ftyp", 0, b"mp42"),
+    ('ftyp.major_brand="a=b."', "ftyp", 0, b"a=b."),
+    ("ftyp.compatible_brands[0]=iso6", "ftyp", 8, b"iso6"),
+    ("moov/udta/meta/ilst/©nam/data.text=New", "moov/udta/meta/ilst/©nam/data", 8, b"New"),
+]
+
+
+def settings(runs, random_):
+    """Checks fields that are set, by the bytes that they should change."""
+    for where, data in two_files(random_):
+        for option, path, at, new in FIELDS:
+            model = Model(data)
+            model.write(path, at, new)
+            runs.edits(f"{where}: {option}", data, model.done(), "--set", option)
+        # Lists and texts of other lengths.
+        model = Model(data)
+        model.replace("ftyp", ftyp(b"isom", b"iso6", b"mp42", b"\xa9abc"))
+        runs.edits(f"{where}: brands", data, model.done(), "--set",
+                   'ftyp.compatible_brands=["iso6", "mp42", "\u00a9abc"]')
+        model = Model(data)
+        model.replace("moov/trak/mdia/hdlr", handler(b"vide", "T\xf6ne".encode()))
+        runs.edits(f"{where}: a name", data, model.done(), "--set", "moov/trak/mdia/hdlr.name=T\xf6ne")
+        model = Model(data)
+        model.replace("moov/udta/meta/ilst/\xa9nam", item(NAM, b"A long title"))
+        runs.edits(f"{where}: a title", data, model.done(), "--set",
+                   "moov/udta/meta/ilst/\xa9nam/data.text=A long title")
+        # A text that JSON has as a number.
+        model = Model(data)
+        model.replace("moov/udta/meta/ilst/\xa9nam", item(NAM, b"1984"))
+        runs.edits(f"{where}: digits", data, model.done(), "--set", 'moov/udta/meta/ilst/\xa9nam/data.text="1984"')
+        # Another version has times of 64 bits.
+        model = Model(data)
+        model.replace("moov/trak/tkhd", tkhd(1, version=1))
+        runs.edits(f"{where}: version 1", data, model.done(), "--set", "moov/trak/tkhd.version=1")
+        # Several fields of a box, and fields of two boxes. The last value of a field counts.
+        model = Model(data)
+        model.write("moov/mvhd", 32, be(4, 0x30000) + be(2, 0x80))
+        runs.edits(f"{where}: two fields", data, model.done(), "--set", "moov/mvhd.rate=2", "--set",
+                   "moov[0]/mvhd.volume=0.5", "--set", "moov/mvhd.rate=3", count=1)
+        model.write("moov/trak[1]/tkhd", 34, be(2, 5))
+        model.write("moov/trak/tkhd", 3, b"\6")
+        runs.edits(f"{where}: two boxes", data, model.done(), "--set", "moov/trak[1]/tkhd.alternate_group=5", "--set",
+                   "moov/mvhd.rate=3", "--set", "moov/mvhd.volume=0.5", "--disable", "1", count=3)
+    # A text that isn't UTF-8 has its bytes beside it. Each of both is left out if the other one is set.
+    plain = made(random_, [Track(1, [[10, 20], [30]])])
+    for old, option, new in ((b"a\xff", "value=b", b"b"), (b"a", "value_hex=62ff", b"b\xff"),
+                             (b"a\xff", "value_hex=62fe", b"b\xfe")):
+        data = with_udta(plain, full(b"kind", 0, 0, b"urn:a\0" + old + b"\0"))
+        model = Model(data)
+        model.replace("moov/udta/kind", full(b"kind", 0, 0, b"urn:a\0" + new + b"\0"))
+        runs.edits(option, data, model.done(), "--set", f"moov/udta/kind.{option}")
+    # An entry of a list, in an edit list of two entries (8.6.6).
+    rows = be(4, 500, -1) + be(2, 1, 0) + be(4, 5000, 0) + be(2, 1, 0)
+    model = Model(plain)
+    model.insert("moov/trak", box(b"edts", full(b"elst", 0, 0, be(4, 2) + rows)))
+    data = model.done()
+    model = Model(data)
+    model.write("moov/trak/edts/elst", 8 + 12 + 4, be(4, 512))
+    runs.edits("an edit", data, model.done(), "--set", "moov/trak/edts/elst.entries[1].media_time=512")
+    model = Model(data)
+    model.replace("moov/trak/edts/elst", full(b"elst", 0, 0, be(4, 1, 7, 0) + be(2, 1, 0)))
+    runs.edits("one edit", data, model.done(), "--set", 'moov/trak/edts/elst.entries=[{"segment_duration": 7, '
+               '"media_time": 0, "media_rate_integer": 1, "media_rate_fraction": 0}]')
+    # The meaning of a number is left out if the number is set: type 22 is an unsigned integer, and 21 a signed one.
+    data = with_udta(plain, meta(item(NAM, b"\5", 21)))
+    for option, at, new in (("number=-5", 8, b"\xfb"), ("data_type=22", 0, be(4, 22))):
+        model = Model(data)
+        model.write("moov/udta/meta/ilst/\xa9nam/data", at, new)
+        runs.edits(option, data, model.done(), "--set", f"moov/udta/meta/ilst/\xa9nam/data.{option}")
+
+
+def unset(runs, random_):
+    """Checks fields that can't be set, each by its text."""
+    _, data = next(two_files(random_))
+    model = Model(data)
+
+    def at(path):
+        return model.at(path)[0].at
+    for option, text in (
+            ("moov/abcd.x=1", "there is no moov/abcd"),
+            ("moov/trak[2]/tkhd.flags=1", "there is no moov/trak[2]/tkhd"),
+            ("moov/mvhd.speed=1", "moov/mvhd.speed is not a field of this box"),
+            ("moov/mvhd.matrix.q=1", "moov/mvhd.matrix.q is not a field of this box"),
+            ("moov/mvhd.matri.a=1", "moov/mvhd.matri.a is missing"),
+            ("moov/mvhd.rate[0]=1", "moov/mvhd.rate[0] is missing"),
+            ("moov/mvhd.rate.a=1", "moov/mvhd.rate.a is missing"),
+            ("moov/mvhd.rate[=1", "moov/mvhd.rate[ is missing"),
+            ("moov/mvhd.rate=70000", "moov/mvhd.rate does not fit the field"),
+            ("moov/mvhd.rate=fast", "moov/mvhd.rate is not a number of at most 37 digits"),
+            ("moov/mvhd.rate=", "moov/mvhd.rate is not a number of at most 37 digits"),
+            ("moov/mvhd.timescale=4294967296", "moov/mvhd.timescale does not fit the field"),
+            ("moov/mvhd.timescale=-1", "moov/mvhd.timescale is not a whole number that the field can have"),
+            ("moov/mvhd.timescale=0.5", "moov/mvhd.timescale is not a whole number that the field can have"),
+            ("moov/mvhd.version=2", "moov/mvhd.version is a version that the box does not have"),
+            # A time of 2^40 doesn't fit the fields of version 0.
+            ("moov/mvhd.version=0", "moov/mvhd.duration does not fit the field"),
+            ("moov/trak/mdia/mdhd.language=English", "moov/trak/mdia/mdhd.language does not fit the field"),
+            ("moov/mvhd.matrix=1", "moov/mvhd.matrix is not an object"),
+            ("ftyp.compatible_brands=isom", "ftyp.compatible_brands is not an array"),
+            ("ftyp.compatible_brands[0]=iso",
+             "ftyp.compatible_brands[0] is not a text of four characters below U+0100"),
+            ("ftyp.compatible_brands[1]=iso6", "ftyp.compatible_brands[1] is missing"),
+            ("moov/udta/meta/ilst/\xa9nam/data.text=1984", "moov/udta/meta/ilst/\xa9nam/data.text is not a text"),
+            ("moov/udta/meta/ilst/\xa9nam/data.data_type=21", "moov/udta/meta/ilst/\xa9nam/data.number is missing"),
+            ("moov/udta/meta/ilst/\xa9nam/data.data_type_name=x",
+             "moov/udta/meta/ilst/\xa9nam/data.data_type_name contradicts its field")):
+        runs.refuses(data, text, "--set", option)
+    for path in ("moov", "free", "moov/udta/name", "moov/udta/meta", "moov/trak/mdia/minf/dinf/dref",
+                 "moov/trak/mdia/minf/dinf/dref/url ", "moov/trak/mdia/minf/stbl"):
+        runs.refuses(data, f"{path} at {at(path)}: fields of this box can't be set", "--set", f"{path}.flags=1")
+    stbl = "moov/trak/mdia/minf/stbl"
+    for path in (f"{stbl}/stsz", f"{stbl}/stco"):
+        runs.refuses(data, f"{stbl} at {at(stbl)}: no edit may change a sample table", "--set", f"{path}.flags=1")
+    trak = f"trak 1 at {at('moov/trak')}: its track_ID, timescale and handler can't be kept"
+    for option in ("moov/trak/tkhd.track_ID=9", "moov/trak/mdia/mdhd.timescale=9",
+                   "moov/trak/mdia/hdlr.handler_type=soun"):
+        runs.refuses(data, trak, "--set", option)
+    runs.write("new.box", box(b"free", b"new"))
+    for words in (("--replace", "moov/mvhd=new.box"), ("--remove", "moov/mvhd")):
+        runs.refuses(data, f"two edits change the same box: the second one begins at {at('moov/mvhd')}", *words,
+                     "--set", "moov/mvhd.rate=2")
+    # Reserved bytes that are not 0 would become 0.
+    model_ = Model(data)
+    model_.write("moov/mvhd", 38, b"\1")
+    runs.refuses(model_.done(), f"moov/mvhd at {at('moov/mvhd')}: other bytes would change, too: the box is not in its "
+                 "normal form", "--set", "moov/mvhd.rate=2")
+    short = with_udta(made(random_, [Track(1, [[10]])]), box(b"kind", bytes(2)))
+    runs.refuses(short, f"moov/udta/kind at {short.index(b'kind') - 4}: the box can't be read: unexpected end of input",
+                 "--set", "moov/udta/kind.value=x")
+    runs.refuses(data + b"\0\0\0\x20sidx", f"sidx at {len(data)}: the box is not whole", "--set", "sidx.flags=1")
+    fragments = fragmented()
+    place = fragments.index(b"moof") - 4
+    runs.refuses(fragments, f"moof at {place}: no edit may change a fragment", "--set", "moof/mfhd.sequence_number=9")
 
 
 def fragmented():
@@ -725,9 +884,12 @@ def misused(runs, random_):
     runs.write("new.box", new)
     path = "expected a path such as moov/udta or moov/trak[1]/edts"
     place = "expected PATH=FILE or PATH:N=FILE, such as moov/udta=name.box or /:1=free.box"
+    setting = "expected PATH.FIELD=VALUE, such as moov/mvhd.rate=2 or moov/trak[1]/tkhd.matrix.a=-1"
     for words, text in ((("--remove", "mov"), path), (("--remove", "moov/trak[x]"), path), (("--remove", ""), path),
                         (("--insert", "moov"), place), (("--insert", "moo=new.box"), place),
                         (("--replace", "moov"), "expected PATH=FILE, such as moov/udta=udta.box"),
+                        (("--set", "moov/mvhd.rate"), setting), (("--set", "moov/mvhd=2"), setting),
+                        (("--set", "moov/mvhd.=2"), setting), (("--set", "mov.rate=2"), setting),
                         (("--brand", "iso"), "expected codes of four characters, separated by commas, such as "
                          "isom,iso6"),
                         (("--language", "1=English"), "expected TRACK=LANGUAGE with three lower-case letters, such as "
@@ -834,6 +996,12 @@ class Edit(unittest.TestCase):
 
     def test_shortcuts(self):
         shortcuts(self.runs, self.random)
+
+    def test_settings(self):
+        settings(self.runs, self.random)
+
+    def test_unset(self):
+        unset(self.runs, self.random)
 
     def test_tags(self):
         tags(self.runs, self.random)

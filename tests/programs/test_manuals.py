@@ -72,7 +72,7 @@ def statuses(crate):
 
 def compare_options(page, name, command, help_text, tags):
     """Compares the options of a command: their names, the names of their numbers, and the defaults of these."""
-    said = re.findall(r"^ +((?:-\w, )? *--[\w-]+(?: <[\w=]+>)?)  +(.*)", help_text, re.M)
+    said = re.findall(r"^ +((?:-\w, )? *--[\w-]+(?: <[\w.=]+>)?)  +(.*)", help_text, re.M)
     options = {re.sub("[<>]", "", name).strip(): text for name, text in said}
     if command:
         # The page has it once, for all commands.

@@ -1,3 +1,7 @@
+pub mod FieldSteps
 pub mod Fields
+pub mod JsonChanges
+pub mod JsonNumbers
+pub mod ObjectText
 pub mod OpenPaths
 pub mod PieceSteps

@@ -1,10 +1,13 @@
 -- The events of the fields of a box that are shown, by how the box is read.
-use Rattle.std.specs.Prelude.{ℕ, ◌-◌, ◌^◌, ◌==◌, ◌&&◌, Bool, true, nat_le, nat_lt, List, [], length, if◌then◌else◌}
+use Rattle.std.specs.Prelude.{ℕ, ◌-◌, ◌^◌, ◌==◌, ◌&&◌, Bool, true, nat_le, nat_lt, List, [], ◌∷◌, ◌++◌, length}
+use Rattle.std.specs.Prelude.{if◌then◌else◌}
+use Rattle.json.specs.Token.{Token}
 use Rattle.mp4_frame.specs.Bytes.{number as uint}
 use Rattle.mp4_show.specs.FrontFields.{entry_fields, head_fields, list_fields, reference_fields}
 use Rattle.mp4_show.specs.FrontFields.{sound_fields, terminator_fields, usertype_fields, visual_fields}
 use Rattle.mp4_shown.specs.Event.{Event, Shown}
 use Rattle.mp4_shown.specs.declared.view.View.{View}
+use Rattle.mp4_shown_json.specs.Tokens.{all_tokens}
 use Rattle.uuid.specs.Text.{hyphenated_text, lower}
 use Rattle.mp4_content.specs.declared.content.Content.{Content}
 use Rattle.mp4_content.specs.declared.content.Content.TheVariants as contents
@@ -15,6 +18,10 @@ use Rattle.mp4_walk.specs.declared.tree_box.TreeBox.{TreeBox}
 -- how a box is shown in JSON: whole
 abbrev pub json_view : View
 json_view = record { rows = 2 ^ 64 - 1; columns = true }
+
+-- fields as one object
+abbrev pub object_tokens : List Event → List Token
+object_tokens es = Token.begin_object ∷ (all_tokens es ++ Token.end_object ∷ [])
 
 -- the box is in the sample descriptions of a QuickTime file
 abbrev pub is_quicktime : TreeBox → Bool

@@ -1,9 +1,13 @@
+pub mod ChangedJson
 pub mod Content
 pub mod FaultText
+pub mod Field
 pub mod Fields
 pub mod Foreign
+pub mod FromJson
 pub mod Kind
 pub mod PathTexts
 pub mod Paths
 pub mod Pieces
+pub mod Setting
 pub mod Terminator

@@ -1,5 +1,4 @@
 pub mod Boxes
-pub mod FieldSteps
 pub mod FoundFields
 pub mod Json
 pub mod PatternSteps

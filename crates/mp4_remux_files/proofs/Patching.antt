@@ -57,7 +57,7 @@ box_patched B ss f x xs (g ∷ gs) os ps Q adds so_far qs are =
     (subst (λ (us : List Splice). Q us) (sym (append_assoc os (adds.0 ∷ []) qs))
     (so_far (adds.0 ∷ qs) (adds.2, are)))
 
--- the splices of all boxes, if those of the boxes that are left come after ps
+-- the splices of all boxes, if those of the other boxes follow ps
 abbrev pub ArePatchedAfter : Option (List ℕ) → List Splice → Fragment → List TreeBox → List TreeBox → List Splice
     → Type 0
 ArePatchedAfter r ss f left boxes ps =

@@ -1,6 +1,7 @@
 //! The values of options: the changes that those of `edit` ask for, and the seconds of `fragment` and `cut`.
 
 use crate::seconds::{nanoseconds_in, time_in};
+use mp4_content::Setting;
 use mp4_frame::FourCC;
 use mp4_remux::edits::{Parent, packed_language};
 use mp4_walk::BoxPath;
@@ -35,6 +36,17 @@ pub enum Argument {
     DropTrack(u32),
 }
 
+/// A field of a box that `--set` names, with its new value.
+#[derive(Debug, Drop)]
+pub struct FieldArgument {
+    /// The path of the box.
+    pub path: BoxPath,
+    /// The text of this path, for messages.
+    pub text: String,
+    /// The field and its value.
+    pub setting: Setting,
+}
+
 /// A fault of the value of an option.
 #[derive(Debug, Drop)]
 pub enum ArgumentError {
@@ -57,6 +69,9 @@ const INSERTION: &str =
     "expected PATH=FILE or PATH:N=FILE, such as moov/udta=name.box or /:1=free.box";
 /// The form of the value of `--replace`.
 const REPLACEMENT: &str = "expected PATH=FILE, such as moov/udta=udta.box";
+/// The form of the value of `--set`.
+const SETTING: &str =
+    "expected PATH.FIELD=VALUE, such as moov/mvhd.rate=2 or moov/trak[1]/tkhd.matrix.a=-1";
 /// The form of the value of `--brand`.
 const BRANDS: &str = "expected codes of four characters, separated by commas, such as isom,iso6";
 /// The form of the value of `--language`.
@@ -161,6 +176,48 @@ pub(crate) fn replacement(alloc: Global, value: &str) -> Result<Argument, Argume
     let (to, file) = halves(value, REPLACEMENT)?;
     let name = String::from_str(alloc, file)?;
     Ok(Argument::Replace(path(alloc, to, REPLACEMENT)?, name))
+}
+
+/// Returns the path at the front of `text`, its text, and what is after the point that ends it. That is the first point
+/// before which there is a whole path, since a code may have a point.
+fn split_path<'a>(
+    alloc: Global,
+    text: &'a str,
+) -> Result<(BoxPath, String, &'a str), ArgumentError> {
+    let mut front = String::new(alloc);
+    let mut rest = text;
+    for _ in 0..text.len() {
+        let Some((before, after)) = rest.split_once('.') else {
+            break;
+        };
+        front.push_str(before)?;
+        match BoxPath::parse(alloc, front.as_str()) {
+            Ok(path) => return Ok((path, front, after)),
+            Err(mp4_walk::PathError::Memory) => return Err(ArgumentError::Memory),
+            Err(_) => {}
+        }
+        front.push('.')?;
+        rest = after;
+    }
+    Err(ArgumentError::Form(SETTING))
+}
+
+/// Returns the field that `--set` with this value names.
+pub(crate) fn field_setting(alloc: Global, value: &str) -> Result<FieldArgument, ArgumentError> {
+    let (name, new) = halves(value, SETTING)?;
+    let (path, text, field) = split_path(alloc, name)?;
+    if field.is_empty() {
+        return Err(ArgumentError::Form(SETTING));
+    }
+    let setting = Setting {
+        field: String::from_str(alloc, field)?,
+        value: String::from_str(alloc, new)?,
+    };
+    Ok(FieldArgument {
+        path,
+        text,
+        setting,
+    })
 }
 
 /// Returns the change that `--brand` with this value asks for.

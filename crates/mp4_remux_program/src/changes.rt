@@ -1,8 +1,9 @@
 //! The changes of a request, with the files that they name.
 
-use crate::argument::Argument;
+use crate::argument::{Argument, FieldArgument};
 use crate::destination::{Node, NodeKind};
 use crate::outcome::Outcome;
+use crate::settings::add_settings;
 use mp4_command::escaped;
 use mp4_frame::{FourCC, codes};
 use mp4_io::Failure;
@@ -141,10 +142,12 @@ fn change_of(rt: &HostRuntime, argument: Argument) -> Result<Shortcut, NoChanges
     })
 }
 
-/// Returns the changes that `arguments` ask for.
+/// Returns the changes that `arguments` and `settings` ask for. The fields of `settings` are those of the file `from`.
 pub(crate) fn changes_of(
     rt: &HostRuntime,
     arguments: Vec<Argument>,
+    settings: Vec<FieldArgument>,
+    from: &str,
 ) -> Result<Vec<Shortcut>, NoChanges> {
     let mut changes = Vec::new(rt.alloc());
     for argument in arguments {
@@ -153,6 +156,9 @@ pub(crate) fn changes_of(
             Ok(()) => {}
             Err(_) => return Err(NoChanges::Memory),
         }
+    }
+    if !settings.is_empty() {
+        add_settings(rt, from, settings, &mut changes)?;
     }
     Ok(changes)
 }

@@ -13,6 +13,7 @@ mod request;
 mod rewriting;
 mod seconds;
 mod segments;
+mod settings;
 
 use changes::{NoChanges, changes_of};
 use mp4_command::{NOT_UTF_8, unreadable};
@@ -36,11 +37,13 @@ fn tell_names(rt: &HostRuntime, from: &str, to: &str) -> bool {
     }
 }
 
-/// Returns what should be done, with the bytes of the files that the changes name.
-fn task_of(rt: &HostRuntime, work: Work) -> Result<Task, NoChanges> {
+/// Returns what should be done with the file `from`, with the bytes of the files that the changes name.
+fn task_of(rt: &HostRuntime, work: Work, from: &str) -> Result<Task, NoChanges> {
     match work {
         Work::FastStart => Ok(Task::FastStart),
-        Work::Edit(arguments) => Ok(Task::Edit(changes_of(rt, arguments)?)),
+        Work::Edit(arguments, settings) => {
+            Ok(Task::Edit(changes_of(rt, arguments, settings, from)?))
+        }
         Work::Fragment(options) => Ok(Task::Fragment(options)),
         Work::Defragment => Ok(Task::Defragment),
         Work::Cut(times) => Ok(Task::Cut(times)),
@@ -69,7 +72,7 @@ fn write_file(rt: &HostRuntime, request: Request) -> Result<Outcome, Failure> {
     if tell_names(rt, from.as_str(), to.as_str()) {
         return Ok(Outcome::Failed);
     }
-    match task_of(rt, work) {
+    match task_of(rt, work, from.as_str()) {
         Ok(task) => carry_out(rt, task, from.as_str(), to.as_str()),
         Err(NoChanges::Told(outcome)) => Ok(outcome),
         Err(NoChanges::Memory) => Err(Failure::Memory),

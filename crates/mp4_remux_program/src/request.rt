@@ -1,8 +1,8 @@
 //! The requests that a command line can make.
 
 use crate::argument::{
-    Argument, ArgumentError, brands, duration, insertion, language, removal, replacement, rotation,
-    tag, time, track_of,
+    Argument, ArgumentError, FieldArgument, brands, duration, field_setting, insertion, language,
+    removal, replacement, rotation, tag, time, track_of,
 };
 use clap::{Arg, ArgAction, ArgMatches, Command, Error};
 use mp4_command::{MISUSE, escaped, print_error, unreadable, words_of};
@@ -16,8 +16,8 @@ use std::alloc::{AllocError, Global};
 pub enum Work {
     /// The `moov` before the media data.
     FastStart,
-    /// These changes.
-    Edit(Vec<Argument>),
+    /// These changes, and fields that are set.
+    Edit(Vec<Argument>, Vec<FieldArgument>),
     /// All samples in fragments.
     Fragment(FragmentOptions),
     /// All samples in tables.
@@ -77,6 +77,10 @@ Exit status: 0 written, 1 refused (nothing is written), 2 misuse, 3 failed.";
 const AFTER_EDIT: &str =
     "A PATH is codes and numbers, such as moov/trak[1]/udta; / is the file. It leads to a box of the file or to one in
 the moov. Paths are those of IN, whatever the order of the options. TRACK is a track_ID.
+
+A FIELD is names and numbers, such as matrix.a or compatible_brands[1], as mp4inspect --json shows them. A VALUE that is
+JSON, such as 2, 0.5, [1, 2] or \"2\", is this value; any other VALUE is a text, such as deu. Fields of a box are set in
+the order of the options. Nothing else of it changes: a box that isn't in its normal form is refused.
 
 Every sample of every track keeps its bytes, times, flags and description. Every other box stays the same too, except
 for the named boxes, the sizes of the boxes around them, and offsets into the file, which lead to the same bytes as
@@ -171,12 +175,14 @@ fn with_boxes<'a>(alloc: Global, command: Command<'a>) -> Result<Command<'a>, Al
     let insert =
         "Insert the boxes of FILE as the last children of PATH, or with PATH:N before its child N, from 0";
     let replace = "Replace the box at PATH by that of FILE";
+    let set = "Set a field of the box at PATH, such as moov/mvhd.rate=2";
     let brand =
         "Set the major brand to the first of these codes, and add all of them to the compatible brands";
     command
         .arg(repeated(alloc, "remove", "PATH", remove))?
         .arg(repeated(alloc, "insert", "PATH=FILE", insert))?
         .arg(repeated(alloc, "replace", "PATH=FILE", replace))?
+        .arg(repeated(alloc, "set", "PATH.FIELD=VALUE", set))?
         .arg(repeated(alloc, "brand", "BRANDS", brand))
 }
 
@@ -345,6 +351,25 @@ fn misuse_of(alloc: Global, option: &'static str, value: &str, error: ArgumentEr
     }
 }
 
+/// Returns the fields that `matches` ask to set, in the order of the options.
+fn settings_of(alloc: Global, matches: &ArgMatches<'_>) -> Result<Vec<FieldArgument>, Misuse> {
+    let mut settings = Vec::new(alloc);
+    let Some(values) = matches.get_strs("set") else {
+        return Ok(settings);
+    };
+    for item in values {
+        let value: &str = utf_8(alloc, *item)?;
+        match field_setting(alloc, value) {
+            Ok(setting) => match settings.push(setting) {
+                Ok(()) => {}
+                Err(_) => return Err(Misuse::Memory),
+            },
+            Err(error) => return Err(misuse_of(alloc, "set", value, error)),
+        }
+    }
+    Ok(settings)
+}
+
 /// Adds to `arguments` what the option `name` asks for, each time that it is given.
 fn add_all(
     alloc: Global,
@@ -368,7 +393,7 @@ fn add_all(
     Ok(())
 }
 
-/// The options of `edit` that have a value.
+/// The options of `edit` that have a value, except `--set`.
 const OPTIONS: [&str; 12] = [
     "remove",
     "insert",
@@ -396,10 +421,11 @@ fn edit_of(alloc: Global, matches: &ArgMatches<'_>) -> Result<Work, Misuse> {
             Err(_) => return Err(Misuse::Memory),
         }
     }
-    if arguments.is_empty() {
+    let settings = settings_of(alloc, matches)?;
+    if arguments.is_empty() && settings.is_empty() {
         return Err(Misuse::NoEdit);
     }
-    Ok(Work::Edit(arguments))
+    Ok(Work::Edit(arguments, settings))
 }
 
 /// Returns the least number of nanoseconds of a fragment in `matches`, or `None` if it is not given.

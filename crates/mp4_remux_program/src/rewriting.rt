@@ -290,11 +290,11 @@ fn open_file(rt: &HostRuntime, name: &str) -> io::Result<(Opened, Metadata)> {
     Ok((opened, metadata))
 }
 
-/// Opens the file that is read, and returns it with its node. If that fails or it is not a regular file, prints a line
-/// to standard error and returns `None`. A FIFO is not opened, since that would wait for a writer.
-pub(crate) fn open_source(rt: &HostRuntime, names: Names<'_>) -> Option<(Opened, Node)> {
-    let shown = names.shown_from;
-    let opened = match fs::metadata(rt, names.from) {
+/// Opens the file `from` that is read, and returns it with its node. If that fails or it is not a regular file, prints
+/// a line to standard error and returns `None`. Its name in messages is `shown`. A FIFO is not opened, since that would
+/// wait for a writer.
+pub(crate) fn open_source(rt: &HostRuntime, from: &str, shown: &str) -> Option<(Opened, Node)> {
+    let opened = match fs::metadata(rt, from) {
         Ok(metadata) => {
             let kind = Node::new(&metadata).kind;
             if kind != NodeKind::File {
@@ -303,7 +303,7 @@ pub(crate) fn open_source(rt: &HostRuntime, names: Names<'_>) -> Option<(Opened,
                 );
                 return None;
             }
-            open_file(rt, names.from)
+            open_file(rt, from)
         }
         Err(error) => Err(error),
     };
@@ -350,7 +350,7 @@ fn rewrite_file(rt: &HostRuntime, task: Task, from: &str, to: &str) -> Result<Ou
         shown_from: shown_from.as_str(),
         shown_to: shown_to.as_str(),
     };
-    let Some((opened, node)) = open_source(rt, names) else {
+    let Some((opened, node)) = open_source(rt, from, names.shown_from) else {
         return Ok(Outcome::Failed);
     };
     if to == "-" {

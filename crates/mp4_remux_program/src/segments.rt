@@ -342,7 +342,7 @@ fn write_to_folder(
         shown_from: shown_from.as_str(),
         shown_to: shown_to.as_str(),
     };
-    let Some((opened, _)) = open_source(rt, names) else {
+    let Some((opened, _)) = open_source(rt, from, names.shown_from) else {
         return Ok(Outcome::Failed);
     };
     if !is_free(rt, names) {

@@ -11,7 +11,7 @@ use crate::teller::Teller;
 use crate::track_samples::TrackSamples;
 use mp4_samples::Sample;
 
-/// What lists the samples of a run of a track.
+/// Lists the samples of a run of a track.
 #[derive(Clone, Copy)]
 pub struct PartTeller<'a> {
     /// The samples of the track, one after the other.

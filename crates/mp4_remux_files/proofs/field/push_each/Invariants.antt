@@ -1,4 +1,4 @@
--- The fields so far, and those that are left, are all of them.
+-- The fields that are pushed, and those that follow, are all of them.
 use Rattle.std.proofs.Common.{◌≡◌, ◌++◌}
 use Rattle.mp4_remux_files.specs.Fields.{each_field}
 use Rattle.mp4_remux_files.proofs.field.push_each.Given as goal

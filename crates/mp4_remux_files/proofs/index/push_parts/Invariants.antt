@@ -1,4 +1,4 @@
--- The parts so far, and those that are left, are all of them.
+-- The parts that are pushed, and those that follow, are all of them.
 use Rattle.std.proofs.Common.{◌≡◌, ◌++◌}
 use Rattle.mp4_remux_files.specs.Fields.{part_fields}
 use Rattle.mp4_remux_files.proofs.index.push_parts.Given as goal

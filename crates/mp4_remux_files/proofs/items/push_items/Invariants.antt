@@ -1,4 +1,4 @@
--- The items so far, and those that are left, are all of them.
+-- The items that are pushed, and those that follow, are all of them.
 use Rattle.std.proofs.Common.{◌≡◌, ◌++◌}
 use Rattle.mp4_remux_files.specs.Fields.{items_fields}
 use Rattle.mp4_remux_files.proofs.items.push_items.Given as goal

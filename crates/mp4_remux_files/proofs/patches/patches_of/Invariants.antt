@@ -1,4 +1,4 @@
--- The walk is the same, and the splices so far are those of the boxes that are passed.
+-- The walk is the same, and the splices are those of the boxes before it.
 use Rattle.std.proofs.Common.{◌≡◌, drop}
 use Rattle.mp4_remux_files.proofs.Patching.{ArePatchedAfter}
 use Rattle.mp4_remux_files.proofs.patches.patches_of.Given as goal

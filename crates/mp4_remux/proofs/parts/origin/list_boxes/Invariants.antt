@@ -1,4 +1,4 @@
--- The lists so far, and those of the tracks that are left, are those of all tracks.
+-- The lists that are made, and those of the tracks that follow, are those of all tracks.
 use Rattle.std.proofs.Common.{◌≡◌, ◌++◌, length}
 use Rattle.mp4_frame.specs.FourCC.{four_cc_of}
 use Rattle.mp4_frame.specs.declared.codes.TheConstants as codes

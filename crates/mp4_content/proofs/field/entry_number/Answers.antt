@@ -1,7 +1,7 @@
 use Rattle.std.proofs.Common.{None, Some, lit<, ◌∙◌}
 use Rattle.std.proofs.lemmas.Str.Pattern.{strip_suffix_char}
-use Rattle.mp4_inspect.proofs.FieldSteps.{no_bracket, before_bracket}
-use Rattle.mp4_inspect.proofs.field.entry_number.Goals as goal
+use Rattle.mp4_content.proofs.FieldSteps.{no_bracket, before_bracket}
+use Rattle.mp4_content.proofs.field.entry_number.Goals as goal
 
 pub returns-in_err-strip_suffix : goal.returns-in_err-strip_suffix
 returns-in_err-strip_suffix c =

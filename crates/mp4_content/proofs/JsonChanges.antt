@@ -1,0 +1,49 @@
+-- Changes of values in JSON, one after the other.
+use Rattle.std.proofs.Common.{◌≡◌, ◌<◌, ◌-◌, ℕ, zero, suc, Bool, false, List, [], ◌∷◌, length, take, cond, Bor}
+use Rattle.std.proofs.Common.{Option, None, Some, Ok, refl, sym, ap, ◌∙◌, ⊎_elim, arith}
+use Rattle.std.proofs.lemmas.Bool.{cases_Bool}
+use Rattle.std.proofs.lemmas.Bool.Decides.{Decides-eqb}
+use Rattle.std.proofs.lemmas.Slice.Eq.{ends_is}
+use Rattle.std.specs.List.{ends_with, insert, remove}
+use Rattle.std.specs.Prelude.{MatchOption, codes, nat_eq, option_map, slice_index_or}
+use Rattle.std.specs.Str.Pattern.{FindsTextSuffix, StripsSuffix}
+use Rattle.json.specs.Json.{Json, array, Items, item}
+use Rattle.json.specs.Value.{items_view, value_view}
+use Rattle.json.specs.declared.value.Value.{Value}
+use Rattle.mp4_content.specs.ChangedJson.{before_hex, entry_put, put_at}
+use Rattle.mp4_content.specs.Field.{Place, Numbered}
+use Rattle.mp4_shown.specs.Taking.{Taking, ◌>>=◌}
+
+-- what is before the end of a name
+pub before_is : (name : List ℕ) (r : Option (Bor (List ℕ)))
+    → MatchOption r (FindsTextSuffix (codes "_hex") name None)
+    (λ x. StripsSuffix (FindsTextSuffix (codes "_hex")) name x.now)
+    → option_map (λ x. x.now) r ≡ before_hex name
+before_is name None none =
+    let ended = ends_with nat_eq name (codes "_hex") in
+    let other : ended ≡ false =
+    ⊎_elim (λ e. absurd (none _ ((ends_is Decides-eqb name (codes "_hex") _ refl).0 e))) (λ e. e) (cases_Bool ended) in
+    sym (ap (λ (b : Bool). cond b (Some (take (length name - 4) name)) None) other)
+before_is name (Some x) cut =
+    let ended = (ends_is Decides-eqb name (codes "_hex") _ refl).1 (take (length name - cut.0) name) cut.1.1 in
+    ap (λ (t : List ℕ). Some t) cut.2
+    ∙ ap (λ (k : ℕ). Some (take (length name - k) name)) cut.1.0
+    ∙ sym (ap (λ (b : Bool). cond b (Some (take (length name - 4) name)) None) ended)
+
+-- the item with a number is changed
+entry_is : {A : Type 0} (vs : List (Value A)) (n : ℕ) (d w : Value A) (change : Json → Taking Json) → n < length vs
+    → change (value_view (slice_index_or vs n d)) ≡ Ok (value_view w)
+    → entry_put n change (items_view vs) ≡ Ok (items_view (insert (remove vs n) n w))
+entry_is [] n d w change less is = absurd (omega (arith, less))
+entry_is (v ∷ vs) zero d w change less is = ap (λ (t : Taking Json). t >>= λ k. Ok (item k (items_view vs))) is
+entry_is (v ∷ vs) (suc n) d w change less is =
+    ap (λ (t : Taking Items). t >>= λ ks. Ok (item (value_view v) ks))
+    (entry_is vs n d w change (omega (arith, less)) is)
+
+pub put_entry : {A : Type 0} (n : ℕ) (ps : List Place) (new j : Json) (vs : List (Value A)) (d w : Value A)
+    → n < length vs → j ≡ array (items_view vs)
+    → put_at ps new (value_view (slice_index_or vs n d)) ≡ Ok (value_view w)
+    → put_at (Numbered n ∷ ps) new j ≡ Ok (array (items_view (insert (remove vs n) n w)))
+put_entry n ps new j vs d w less is put =
+    ap (put_at (Numbered n ∷ ps) new) is
+    ∙ ap (λ (t : Taking Items). t >>= λ js. Ok (array js)) (entry_is vs n d w (put_at ps new) less put)
