@@ -90,7 +90,7 @@ enum {
     /* No track has the track_ID. Only mp4_samples and mp4_fragment_samples return this status and those below, except
        MP4_UNKNOWN_BOX and MP4_REFUSED. mp4_fragment_samples returns those that mention a fragment. */
     MP4_NO_TRACK = 101,
-    /* Boxes of this type are not read. Only mp4_fields returns this status. */
+    /* Boxes of this type are not read. Only mp4_fields, mp4_box_from_json and mp4_check_json return this status. */
     MP4_UNKNOWN_BOX = 102,
     /* There is no such new file, and a text has the reason. Only the functions for new files return this status. */
     MP4_REFUSED = 103,
@@ -598,6 +598,37 @@ struct mp4_fault_table {
     size_t text_bytes;
 };
 
+/* The reason why a JSON text is not that of a box. The numbers never change. docs/FIELDS.md has the rules. */
+enum {
+    MP4_JSON_NOT_JSON = 1, /* the text isn't JSON in UTF-8 */
+    MP4_JSON_NOT_OBJECT = 2,
+    MP4_JSON_NOT_ARRAY = 3,
+    MP4_JSON_NOT_WHOLE = 4, /* it isn't a whole number that the field can have */
+    MP4_JSON_NOT_NUMBER = 5,
+    MP4_JSON_NOT_TEXT = 6,
+    MP4_JSON_NOT_HEX = 7,
+    MP4_JSON_NOT_CODE = 8,
+    MP4_JSON_OUT_OF_RANGE = 9,
+    MP4_JSON_NO_VERSION = 10, /* the box doesn't have the version */
+    MP4_JSON_WRONG_LENGTH = 11,
+    MP4_JSON_TOO_MANY = 12, /* the field can't count the entries */
+    MP4_JSON_WRONG_COUNT = 13,
+    MP4_JSON_ZERO_BYTE = 14,
+    MP4_JSON_UNKNOWN = 15, /* the box has no such field */
+    MP4_JSON_TWICE = 16,
+    MP4_JSON_MISSING = 17,
+    MP4_JSON_CONTRADICTION = 18, /* it isn't what follows from the field */
+    MP4_JSON_NOT_KEPT = 19       /* the box keeps only one of several members */
+};
+
+/* A fault of a JSON text. */
+struct mp4_json_fault {
+    struct mp4_text_part path; /* of the member, such as references[3].SAP_type; empty for the whole text */
+    struct mp4_text_part text; /* what is wrong, for people; it may change */
+    size_t text_bytes;         /* the number of bytes of both texts */
+    uint32_t reason;           /* MP4_JSON_NOT_JSON to MP4_JSON_NOT_KEPT, or 0 if there is no fault */
+};
+
 /* The samples of a track, in its tables and its fragments. The largest number stands for all larger ones. */
 struct mp4_track_samples {
     uint64_t sample_count;
@@ -796,6 +827,22 @@ uint32_t mp4_find(const uint8_t *bytes, size_t length, const uint8_t *path, size
    Returns: MP4_OK, MP4_NO_ROOM or a fault; MP4_UNKNOWN_BOX for a box of another type, whether it is whole or not.
    Leaves: the text in `text`, as UTF-8 without a zero after it, and the number of its bytes in `count`. */
 uint32_t mp4_fields(const uint8_t *bytes, size_t length, uint8_t *text, size_t places, size_t *count);
+
+/* Writes the box of a code whose fields a JSON object has, under the names of mp4_fields and in any order. Counts of
+   lists and meanings of numbers may be left out.
+   Needs: `json_length` bytes at `json`, the text of the object in UTF-8, and `places` places at `bytes`.
+   Returns: MP4_OK or MP4_NO_ROOM; MP4_INVALID_DATA if the text isn't that of such a box, or the box would have 2^32
+   bytes or more; MP4_UNKNOWN_BOX if mp4_fields reads no boxes of this code; MP4_OUT_OF_MEMORY.
+   Leaves: the box in `bytes`, beginning with its header, and the number of its bytes in `length`. */
+uint32_t mp4_box_from_json(uint32_t code, const uint8_t *json, size_t json_length, uint8_t *bytes, size_t places,
+                           size_t *length);
+
+/* Reports why mp4_box_from_json refuses a text.
+   Needs: `json_length` bytes at `json`, and `places` places at `text`.
+   Returns: MP4_OK, also for a text without a fault; MP4_NO_ROOM; MP4_UNKNOWN_BOX; MP4_OUT_OF_MEMORY.
+   Leaves: the first fault in `fault`, and its texts in `text`. Its reason is 0 if there is none. */
+uint32_t mp4_check_json(uint32_t code, const uint8_t *json, size_t json_length, uint8_t *text, size_t places,
+                        struct mp4_json_fault *fault);
 
 /* A walk over the boxes of a file that isn't in memory. It reports each box and then the boxes inside, if the codec
    knows that the box holds boxes. A walk takes no memory and reads nothing itself: the caller reads the bytes that the
@@ -1510,6 +1557,14 @@ MP4_INLINE uint32_t mp4_call_cut(const uint8_t *bytes, size_t length, uint64_t f
 MP4_INLINE uint32_t mp4_call_status_text(uint32_t status, uint8_t *text, size_t places, size_t *count) {
     return mp4_status_text(status, (uint8_t *)mp4_to(text), places, count);
 }
+MP4_INLINE uint32_t mp4_call_box_from_json(uint32_t code, const uint8_t *json, size_t json_length, uint8_t *bytes,
+                                           size_t places, size_t *length) {
+    return mp4_box_from_json(code, MP4_BYTES(json), json_length, (uint8_t *)mp4_to(bytes), places, length);
+}
+MP4_INLINE uint32_t mp4_call_check_json(uint32_t code, const uint8_t *json, size_t json_length, uint8_t *text,
+                                        size_t places, struct mp4_json_fault *fault) {
+    return mp4_check_json(code, MP4_BYTES(json), json_length, (uint8_t *)mp4_to(text), places, fault);
+}
 MP4_INLINE uint32_t mp4_call_walk_next(const uint8_t *bytes, size_t length, struct mp4_walk *walk,
                                        struct mp4_box *box) {
     return mp4_walk_next(MP4_BYTES(bytes), length, walk, box);
@@ -1626,6 +1681,8 @@ MP4_INLINE uint32_t mp4_call_write_stsd(const struct mp4_stsd_box *box, const si
 #define mp4_list mp4_call_list
 #define mp4_normal mp4_call_normal
 #define mp4_fields mp4_call_fields
+#define mp4_box_from_json mp4_call_box_from_json
+#define mp4_check_json mp4_call_check_json
 #define mp4_stsz mp4_call_stsz
 #define mp4_write_stsz mp4_call_write_stsz
 #define mp4_stco mp4_call_stco

@@ -120,6 +120,12 @@ def merged(fields):
     return [*found.values()]
 
 
+def is_derived(field):
+    """Returns whether a field follows from others, and is left out when a box is written. A byte that counts the bytes
+    after it isn't: files have other numbers there, which are kept."""
+    return "of" in field and not (field["kind"] == "number" and field["bits"] == 8)
+
+
 class Described:
     """The classes of a box in the description, in the order in which they are defined."""
 
@@ -144,7 +150,7 @@ class Described:
 
     def add(self, name, base, words, fields, head):
         """Adds a class, after those of the parts inside. Fields that may be absent are None, and come last."""
-        bits, codes, always, sometimes = {}, [], [], []
+        bits, codes, counts, always, sometimes = {}, [], {}, [], []
         for it in merged(fields):
             own = re.sub(r"\W", "_", it["name"])
             own += "_" if keyword.iskeyword(own) or own in ("code", "read", "write", "replace") else ""
@@ -159,14 +165,17 @@ class Described:
                 codes.append(json.dumps(own))
             kind = self.type_of(it, name)
             renamed = f', metadata={{"name": "{it["name"]}"}}' if own != it["name"] else ""
-            derived = ", compare=False" if "of" in it and isinstance(it["of"], str) else ""
+            derived = ", compare=False" if is_derived(it) else ""
+            if "of" in it and not derived:
+                counts[own] = json.dumps(it["of"])
             if it.get("optional") or "when" in it or derived:
                 made = f"field(default=None{derived}{renamed})" if derived or renamed else "None"
                 sometimes.append(f"{own}: Optional[{kind}] = {made}")
             else:
                 always.append(f"{own}: {kind}" + (f" = field({renamed[2:]})" if renamed else ""))
         tables = ([table_of("_bits", bits, "dict")] if bits else []) + (
-            [table_of("_codes", codes, "tuple")] if codes else [])
+            [table_of("_codes", codes, "tuple")] if codes else []) + (
+            [table_of("_counts", counts, "dict")] if counts else [])
         self.made.append(class_text(name, base, words, head, tables, [*always, *sometimes]))
 
 
@@ -305,19 +314,20 @@ def files():
     return {MODULE: made, PACKAGE: package(made)}
 
 
-def main():
+def run(name, about, shown, made):
+    """Runs a program such as this one: prints what `shown` returns, or writes the files that `made` returns."""
     words = sys.argv[1:]
     if words not in ([], ["--write"]):
         if words in (["-h"], ["--help"]):
-            return print(__doc__.strip())
-        sys.exit(f"tools/python_classes.py: unexpected {words[0]}; try --help")
+            return print(about.strip())
+        sys.exit(f"{name}: unexpected {words[0]}; try --help")
     if not words:
-        return print(module(), end="")
-    for path, text in files().items():
+        return print(shown(), end="")
+    for path, text in made().items():
         with open(os.path.join(TOP, path), "w", encoding="utf-8") as file:
             file.write(text)
     return None
 
 
 if __name__ == "__main__":
-    main()
+    run("tools/python_classes.py", __doc__, module, files)

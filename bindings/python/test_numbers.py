@@ -237,7 +237,7 @@ class Numbers(unittest.TestCase):
 
     def test_all_are_tried(self):
         """Each writer has its row above, with all of its fields."""
-        writers = [it[6:] for it in dir(codec) if it.startswith("write_")]
+        writers = [it[6:] for it in dir(codec) if it.startswith("write_") and it != "write_fields"]
         self.assertEqual(sorted(writers), sorted([*HEADERS, *TABLES, *OTHERS]))
         for name, text in HEADERS.items():
             fields = getattr(codec, name.capitalize())._fields

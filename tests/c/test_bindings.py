@@ -12,6 +12,7 @@ import tempfile
 import unittest
 
 from tests.built import TOP, library, source
+from tests.c.test_described import described_boxes
 
 RUST = os.path.join("bindings", "rust")
 
@@ -77,7 +78,10 @@ class Rust(Bindings):
 
     def passes(self, cargo, rustc):
         """Runs the tests of the crate and the examples, in which a warning is an error too."""
-        said = self.cargo(cargo, rustc, RUSTFLAGS="-D warnings")
+        boxes = os.path.join(self.folder, "boxes.txt")
+        with open(boxes, "w", encoding="ascii") as lines:
+            lines.writelines(f"{it.hex()}\n" for it in described_boxes())
+        said = self.cargo(cargo, rustc, RUSTFLAGS="-D warnings", TEST_BOXES=boxes)
         passed = re.findall(r"^test result: ok. (\d+) passed", said, re.M)
         print(f"bindings: Rust: {'+'.join(passed)} tests passed with {version_of(rustc)}")
 

@@ -1,6 +1,6 @@
-"""Compares what `mp4_fields` gives for boxes with the schema that tools/describe.py makes from their declarations:
-names in their order, kinds and ranges. Reads them as the classes for Python too, which lose nothing. The boxes are
-those of tests/rows, and some here, so that each member occurs."""
+"""Compares what `mp4_fields` gives for boxes with what tools/describe.py makes from their declarations: names in their
+order, kinds and ranges, and the meanings of numbers. Reads them as the classes for Python too, which lose nothing. The
+boxes are those of tests/rows, and some here, so that each member occurs."""
 
 import collections
 import dataclasses
@@ -98,6 +98,38 @@ def members(schema, path):
     return found
 
 
+def described(name):
+    """Returns what a file of tools/describe.py has."""
+    with open(os.path.join(TOP, "docs", name), encoding="utf-8") as file:
+        return json.load(file)
+
+
+def described_boxes():
+    """Returns the bytes of all boxes of types in the description, of tests/rows and of this module."""
+    codes = {box["code"].encode("latin-1") for box in described("boxes.json")["boxes"]}
+    found = [*(bytes(row.buffer) for _, row in rows()), *BOXES]
+    return [it for it in dict.fromkeys(found) if it[4:8] in codes]
+
+
+def other_meanings(value, fields, path):
+    """Returns the members whose meaning isn't that of the description."""
+    found = []
+    tables = {it["name"]: {row["value"]: row["name"] for row in it["meanings"]} for it in fields
+              if it["kind"] == "number" and "meanings" in it}
+    for it in fields:
+        inside = it.get("entries") or it.get("fields")
+        if inside and it["name"] in value:
+            of = value[it["name"]]
+            for part in of if it["kind"] == "list" else [of]:
+                found += other_meanings(part, inside, f"{path}.{it['name']}")
+        if it["kind"] == "text" and it.get("of") in tables:
+            has_one = it.get("when") != "type_set is 0" or "type_set" not in value
+            meaning = tables[it["of"]].get(value.get(it["of"])) if has_one else None
+            if value.get(it["name"]) != meaning:
+                found.append(f"{path}.{it['name']} is {value.get(it['name'])}, and not {meaning}")
+    return found
+
+
 class Described(unittest.TestCase):
     maxDiff = None
 
@@ -109,11 +141,10 @@ class Described(unittest.TestCase):
         """The module for Python has a class for each box. It has the members of the schema, or those of a struct of the
         header, if there is one."""
         module = codec()
-        with open(os.path.join(TOP, "docs/boxes.schema.json"), encoding="utf-8") as file:
-            schemas = json.load(file)["$defs"]
+        schemas = described("boxes.schema.json")["$defs"]
         classes = importlib.import_module("mp4_box_codec._fields").CLASSES
         structs = {code for code in schemas if classes[code]._call}
-        self.assertEqual(structs, {"avcC", "esds", "hdlr", "vpcC"})
+        self.assertEqual(structs, {"avcC", "esds", "hdlr", "tx3g", "vpcC"})
         for code, schema in schemas.items():
             if code in structs:
                 continue
@@ -144,8 +175,8 @@ class Described(unittest.TestCase):
     def test_rows(self):
         library = codec()
         typed = importlib.import_module("mp4_box_codec._fields")
-        with open(os.path.join(TOP, "docs/boxes.schema.json"), encoding="utf-8") as file:
-            schemas = json.load(file)["$defs"]
+        schemas = described("boxes.schema.json")["$defs"]
+        fields_of = {box["code"]: box["fields"] for box in described("boxes.json")["boxes"]}
         seen, count, found = set(), collections.Counter(), []
         for buffer in [*self.buffers, *BOXES]:
             code = buffer[4:8].decode("latin-1")
@@ -156,6 +187,7 @@ class Described(unittest.TestCase):
                     continue
                 count[code] += 1
                 found += faults(fields, schemas[code], code, seen)
+                found += other_meanings(fields, fields_of[code], code)
                 if typed.CLASSES[code]._call:
                     continue
                 value = typed.of_json(typed.CLASSES[code], fields)

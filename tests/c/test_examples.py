@@ -144,7 +144,7 @@ class Examples(Programs):
             for path in (f"examples/c/{name}.c", f"examples/rust/{name}.rs"):
                 most = MOST_OF_MUX_IN_C if path == "examples/c/mux.c" else MOST
                 self.assertLessEqual(source(path).count("\n"), most, path)
-        for path in ("docs/C.md", "docs/RUST.md"):
+        for path in ("docs/C.md", "docs/RUST.md", "docs/PYTHON.md"):
             self.assertLessEqual(source(path).count("\n"), MOST_OF_A_PAGE, path)
 
     def test_tracks(self):

@@ -149,13 +149,14 @@ class Classes(Python):
         self.refused("ftyp.compatible_brands[1] is ", m.Ftyp(compatible_brands=["isom", "abcde"]).write)
         self.refused("pssh.KID[0] is '00', not bytes", self.fields.to_json, smallest(m.Pssh).replace(KID=["00"]))
         self.refused("saio.offset[1] is -1", self.fields.to_json, smallest(m.Saio).replace(offset=[0, -1]))
-        self.refused("doesn't write a 'pasp'", m.Pasp(4, 3).write)
         self.refused("degrees is 45, not 0, 90, 180 or 270", m.Matrix.turned, 45)
 
     def test_written_values(self):
         """A value is written and read again as it was: with numbers that have a fraction or a sign."""
         m, half = self.module, 0.5
+        self.assertEqual(m.Pasp(4, 3).write(), box(b"pasp", be(4, 4, 3)))
         values = [
+            m.Pasp(4, 3), m.Clap(1, 2, 3, 4, -5, 6, -7, 8), m.Kind(version=0, flags=0, schemeURI="urn:a", value="b"),
             m.Mvhd(rate=-half, volume=-1.5, matrix=m.Matrix(a=-1.25, u=-half, w=1.0), timescale=1000),
             m.Tkhd(width=640.5, height=65535.75, volume=-half, layer=-1, flags=7), m.Smhd(balance=-1.0),
             m.Elst(rows=[m.ElstRow(5, -1, 1, 0), m.ElstRow(5, 2 ** 31 - 1, 1, 0)]),

@@ -76,6 +76,14 @@ class Library(unittest.TestCase):
         # The file lost its end: the number of its first fault is that of file-cut.
         self.assertEqual(calls.check_file(box(b"free") + be(4, 9) + b"free")[0].code, 2)
 
+    def test_reasons_of_json(self):
+        """The numbers of reasons, by include/mp4_box_codec.h: a name that no field has, and one that comes twice."""
+        check, pasp = codec().calls.check_json, number_of(b"pasp")
+        both = '"hSpacing": 4, "vSpacing": 3'
+        self.assertIsNone(check(pasp, f"{{{both}}}"))
+        self.assertEqual(check(pasp, f'{{{both}, "zSpacing": 3}}')[:2], ("zSpacing", 15))
+        self.assertEqual(check(pasp, f'{{{both}, "hSpacing": 4}}')[:2], ("hSpacing", 16))
+
     def test_facts_of_a_movie(self):
         """Encrypted video of 8 by 16 pixels, turned by 90 degrees, whose chunk has two samples of 5 and 7 bytes."""
         key = bytes(range(16))

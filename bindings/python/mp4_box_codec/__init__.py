@@ -27,13 +27,13 @@ from .classes import *  # noqa: F401,F403 pylint: disable=wildcard-import,unused
 from .calls import (
     BOX_NOT_FOUND, CUT, END_OF_INPUT, ERROR, INVALID_DATA, LEAF, MOOV_FIRST, MOOV_LAST, NO_HEADER, NO_ROOM, NO_TRACK,
     OK, ORDER_UNKNOWN, OUT_OF_MEMORY, PARENT, REFUSED, SMALL, TABLES, TOO_DEEP, UNKNOWN_BOX, WARNING, CttsRow, ElstRow,
-    Mp4Error, Place, Refused, Sample, Span, StscRow, SttsRow, TrunRow, avc1, avcc, boxes, check, check_file, co64, ctts,
-    data, dinf, dref, elst, emsg, esds, fault_name, fields, find, fragment_samples, ftyp, hdlr, hev1, hvcc, info, list,
-    mdhd, mehd, mfhd, mp4a, mvhd, normal, samples, smhd, status_text, stco, stsc, stsd, stss, stsz, stts, tables, tfdt,
-    tfhd, tkhd, tree, trex, trun, tx3g, url, version, vmhd, vp09, vpcc, write_co64, write_ctts, write_dref, write_elst,
-    write_emsg, write_ftyp, write_hdlr, write_mdhd, write_mehd, write_mfhd, write_mvhd, write_smhd, write_stco,
-    write_stsc, write_stsd, write_stss, write_stsz, write_stts, write_tfdt, write_tfhd, write_tkhd, write_trex,
-    write_trun, write_vmhd)
+    JsonFault, Mp4Error, Place, Refused, Sample, Span, StscRow, SttsRow, TrunRow, avc1, avcc, box_from_json, boxes,
+    check, check_file, check_json, co64, ctts, data, dinf, dref, elst, emsg, esds, fault_name, fields, find,
+    fragment_samples, ftyp, hdlr, hev1, hvcc, info, list, mdhd, mehd, mfhd, mp4a, mvhd, normal, samples, smhd,
+    status_text, stco, stsc, stsd, stss, stsz, stts, tables, tfdt, tfhd, tkhd, tree, trex, trun, tx3g, url, version,
+    vmhd, vp09, vpcc, write_co64, write_ctts, write_dref, write_elst, write_emsg, write_fields, write_ftyp, write_hdlr,
+    write_mdhd, write_mehd, write_mfhd, write_mvhd, write_smhd, write_stco, write_stsc, write_stsd, write_stss,
+    write_stsz, write_stts, write_tfdt, write_tfhd, write_tkhd, write_trex, write_trun, write_vmhd)
 from ._file import Box, Fault, File, units
 from ._new_file import Change, NewFile, cut, defragment, edit, faststart, fragment
 from ._samples import Samples

@@ -129,6 +129,8 @@ class Part:
     _fixed: ClassVar[Dict[str, Tuple[int, int, bool]]] = {}
     # Fields whose text is a code.
     _codes: ClassVar[Tuple[str, ...]] = ()
+    # Numbers of bytes, by the fields with the bytes: None if the box has as many.
+    _counts: ClassVar[Dict[str, str]] = {}
     # The struct of the header, if the library reads the box into one.
     _struct: ClassVar[str] = ""
 
@@ -204,11 +206,10 @@ class Fields(Part):
         return of_json(cls, calls.fields(data))
 
     def write(self) -> bytes:
-        """Returns the bytes of the box, including its header. Raises an Mp4Error with the status UNKNOWN_BOX if the
-        library doesn't write boxes of this type."""
+        """Returns the bytes of the box, including its header. What follows from other fields is left out: counts of
+        lists and meanings of numbers."""
         if not self._is_written:
-            to_json(self)
-            raise Mp4Error(UNKNOWN_BOX, f"the library doesn't write a {self.code!r}")
+            return calls.write_fields(number_of(self.code), to_json(self, derived=False))
         outer, field, begin = self._within
         if outer:
             made: Any = CLASSES[outer]
@@ -313,8 +314,12 @@ def _raw_of(part: Part, value: Any, kind: Any, name: str, path: str) -> Any:
 def of_json(made: Type[N], fields: Any) -> N:
     """Returns the fields of an object of JSON."""
     names = _names(made)
-    return made(**{name: _parsed(fields[names[name]], _plain(hint))
-                   for name, hint in _hints(made).items() if names[name] in fields})
+    values = {name: _parsed(fields[names[name]], _plain(hint))
+              for name, hint in _hints(made).items() if names[name] in fields}
+    for count, of in made._counts.items():
+        if count in values and values.get(of) is not None and values[count] == len(values[of]):
+            del values[count]
+    return made(**values)
 
 
 @_cached
@@ -336,30 +341,40 @@ def _parsed(value: Any, kind: Any) -> Any:
     return of_json(kind, value) if isinstance(kind, type) and issubclass(kind, Part) else value
 
 
-def to_json(part: Part) -> Dict[str, Any]:
-    """Returns the fields as the library shows them as JSON, in the order of the class. Refuses numbers in lists that
-    don't fit."""
+def to_json(part: Part, derived: bool = True) -> Dict[str, Any]:
+    """Returns the fields as the library shows them as JSON, in the order of the class, without those that follow from
+    others if `derived` is False. Refuses numbers in lists that don't fit."""
     found: Dict[str, Any] = {}
-    names = _names(type(part))
+    names, left_out = _names(type(part)), () if derived else _derived(type(part))
     for name, hint in _hints(type(part)).items():
         value = getattr(part, name)
-        if value is not None:
-            found[names[name]] = _shown(part, value, _plain(hint), name, f"{type(part).__name__.lower()}.{name}")
+        counted = getattr(part, part._counts[name]) if name in part._counts and derived else None
+        if value is None and counted is not None:
+            value = len(counted)
+        if value is not None and name not in left_out:
+            path = f"{type(part).__name__.lower()}.{name}"
+            found[names[name]] = _shown(part, value, _plain(hint), name, path, derived)
     return found
 
 
-def _shown(part: Part, value: Any, kind: Any, name: str, path: str) -> Any:
+@_cached
+def _derived(made: Any) -> Tuple[str, ...]:
+    """Returns the fields of a class that follow from others. They don't count when values are compared."""
+    return tuple(it.name for it in dataclasses.fields(made) if not it.compare)
+
+
+def _shown(part: Part, value: Any, kind: Any, name: str, path: str, derived: bool) -> Any:
     inside = _inside(kind)
     if inside:
         copied = calls._copied(value, path, "a list")
         for at, it in enumerate(copied):
             _checked(part, it, inside, name, f"{path}[{at}]", _version(part))
-        return [_shown(part, it, inside, name, f"{path}[{at}]") for at, it in enumerate(copied)]
+        return [_shown(part, it, inside, name, f"{path}[{at}]", derived) for at, it in enumerate(copied)]
     if kind is bytes:
         return calls._bytes(value, path).hex()
     if kind is bool:
         return int(value)
-    return to_json(value) if isinstance(value, Part) else value
+    return to_json(value, derived) if isinstance(value, Part) else value
 
 
 def text_of(part: Part) -> str:

@@ -276,6 +276,14 @@ class Fault(NamedTuple):
     text: str
 
 
+class JsonFault(NamedTuple):
+    """What is wrong with the JSON of a box. `path` is that of the member, such as `references[3].SAP_type`, or empty
+    for the whole text. `reason` is a number of the header, and `text` is for people."""
+    path: str
+    reason: int
+    text: str
+
+
 class TrackSamples(NamedTuple):
     """The samples of a track. `end` is the time at which the last one ends, in the timescale. `frames` frames in
     `frame_units` seconds are the frame rate; both are 0 without one. `bit_rate` is that of a second on average."""
@@ -497,6 +505,7 @@ _RUN = _struct("mp4_trun_row", duration=u32, size=u32, flags=u32, composition_of
 _PART = _struct("mp4_text_part", position=size, length=size)
 _FAULT = _struct("mp4_fault", position=u64, path=_PART, text=_PART, code=u32, severity=u32)
 _FAULTS = _struct("mp4_fault_table", count=size, text_bytes=size)
+_JSON_FAULT = _struct("mp4_json_fault", path=_PART, text=_PART, text_bytes=size, reason=u32)
 _TRACK_SAMPLES = _struct("mp4_track_samples", sample_count=u64, key_frames=u64, bytes=u64, end=u64, bit_rate=u64,
                          frames=u64, frame_units=u64, is_constant=u8)
 _TRACK_PICTURE = _struct("mp4_track_picture", width=u16, height=u16, h_spacing=u32, v_spacing=u32, rotation=u16,
@@ -631,6 +640,8 @@ _edit = _function("mp4_edit", ctypes.c_void_p, size, ctypes.c_void_p, size, ctyp
 _fragment = _function("mp4_fragment", ctypes.c_void_p, size, ctypes.POINTER(_FRAGMENT_OPTIONS), *_FILLED)
 _defragment = _function("mp4_defragment", ctypes.c_void_p, size, *_FILLED)
 _cut = _function("mp4_cut", ctypes.c_void_p, size, u64, u64, *_FILLED)
+_box_from_json = _function("mp4_box_from_json", u32, ctypes.c_char_p, size, ctypes.c_void_p, size, ctypes.c_void_p)
+_check_json = _function("mp4_check_json", u32, ctypes.c_char_p, size, ctypes.c_void_p, size, ctypes.c_void_p)
 _fault_name = _function("mp4_fault_name", u32, ctypes.c_char_p, size, ctypes.POINTER(size))
 _status_text = _function("mp4_status_text", u32, ctypes.c_char_p, size, ctypes.POINTER(size))
 
@@ -1286,6 +1297,53 @@ def fields(data: Any) -> Dict[str, Any]:
     """
     found: Dict[str, Any] = json.loads(bytes(_fields(data)[0]))
     return found
+
+
+def check_json(code: int, text: str) -> Optional[JsonFault]:
+    """Returns why `box_from_json` refuses the JSON of a box, or None if it doesn't.
+
+    >>> check_json(0x70617370, '{"hSpacing": 4294967296, "vSpacing": 3}')
+    JsonFault(path='hSpacing', reason=9, text='does not fit the field')
+    """
+    number, given, found, places = _number(code, _ALL[u32], "code"), _text(text, "text"), _JSON_FAULT(), 0
+    for _ in range(2):
+        out = (u8 * max(places, 1))()
+        status = _check_json(number, given, len(given), ctypes.addressof(out), places, ctypes.addressof(found))
+        if status != NO_ROOM:
+            break
+        places = found.text_bytes
+    if status != OK:
+        raise Mp4Error(status)
+    if not found.reason:
+        return None
+    texts = bytes(out)
+    return JsonFault(_part(texts, found.path), found.reason, _part(texts, found.text))
+
+
+def box_from_json(code: int, text: str) -> bytes:
+    """Returns the box of a code whose fields are the text of a JSON object, under the names of `fields`. If that is
+    refused, the error names the member and the reason.
+
+    >>> box_from_json(0x70617370, '{"hSpacing": 4, "vSpacing": 3}').hex(" ", 4)
+    '00000010 70617370 00000004 00000003'
+    """
+    number, given = _number(code, _ALL[u32], "code"), _text(text, "text")
+    try:
+        return _written(_box_from_json, number, given, len(given))
+    except Mp4Error as error:
+        found = check_json(code, text) if error.status == INVALID_DATA else None
+        if found is None:
+            raise
+        raise Mp4Error(INVALID_DATA, f"{found.path or 'the text'} {found.text}") from None
+
+
+def write_fields(code: int, values: Any) -> bytes:
+    """Returns the box of a code with these fields: a dictionary such as `fields` returns.
+
+    >>> write_fields(0x70617370, {"hSpacing": 4, "vSpacing": 3}).hex(" ", 4)
+    '00000010 70617370 00000004 00000003'
+    """
+    return box_from_json(code, json.dumps(values, ensure_ascii=False))
 
 
 def find(data: Any, path: str) -> Optional[Place]:

@@ -1551,6 +1551,7 @@ class SgpdEntries(Part):
     _bits = {"description_length": (32,), "roll_distance": (-16,), "num_leading_samples": (7,), "reserved": (8,),
     "crypt_byte_block": (4,), "skip_byte_block": (4,), "isProtected": (8,), "Per_Sample_IV_Size": (8,),
     "constant_IV_size": (8,)}
+    _counts = {"constant_IV_size": "constant_IV"}
 
     description_length: Optional[int] = None
     roll_distance: Optional[int] = None
@@ -1563,7 +1564,7 @@ class SgpdEntries(Part):
     isProtected: Optional[int] = None
     Per_Sample_IV_Size: Optional[int] = None
     KID: Optional[bytes] = None
-    constant_IV_size: Optional[int] = field(default=None, compare=False)
+    constant_IV_size: Optional[int] = None
     constant_IV: Optional[bytes] = None
     data_bytes: Optional[bytes] = None
 
@@ -1780,6 +1781,7 @@ class Tenc(Fields):
     code = "tenc"
     _bits = {"version": (8,), "flags": (24,), "default_crypt_byte_block": (4,), "default_skip_byte_block": (4,),
     "default_isProtected": (8,), "default_Per_Sample_IV_Size": (8,), "default_constant_IV_size": (8,)}
+    _counts = {"default_constant_IV_size": "default_constant_IV"}
 
     version: int
     flags: int
@@ -1788,7 +1790,7 @@ class Tenc(Fields):
     default_KID: bytes
     default_crypt_byte_block: Optional[int] = None
     default_skip_byte_block: Optional[int] = None
-    default_constant_IV_size: Optional[int] = field(default=None, compare=False)
+    default_constant_IV_size: Optional[int] = None
     default_constant_IV: Optional[bytes] = None
 
 

@@ -1,16 +1,13 @@
 -- Members between brackets are one object.
-use Rattle.std.proofs.Common.{◌≡◌, ℕ, List, [], ◌∷◌, ◌++◌, refl, ap, subst, ◌∙◌, append_assoc}
-use Rattle.std.specs.List.{fold}
+use Rattle.std.proofs.Common.{◌≡◌, List, [], ◌∷◌, ◌++◌, refl, ap, subst, ◌∙◌, append_assoc}
 use Rattle.json.specs.Json.{Members, no_members, member}
 use Rattle.json.specs.Token.{Token}
 use Rattle.json.specs.Tree.{json_tokens, members_tokens}
 use Rattle.json.specs.Written.{Written}
-use Rattle.mp4_c.specs.Fields.{PutsObject, object_tokens}
-use Rattle.mp4_shown.specs.Event.{Event}
+use Rattle.mp4_c.specs.Fields.{PutsObject}
 use Rattle.mp4_shown.specs.Members.{members}
-use Rattle.mp4_shown_json.proofs.AllTokens.{written_after}
 use Rattle.mp4_shown_json.proofs.Puts.{puts_more}
-use Rattle.mp4_shown_json.specs.Tokens.{Puts, all_tokens, then_event}
+use Rattle.mp4_shown_json.specs.Tokens.{Puts}
 use Rattle.mp4_shown_json.specs.Whole.{PutsAll, tokens_of_members}
 
 members_end : (ms : Members) → tokens_of_members ms ++ Token.end_object ∷ [] ≡ members_tokens ms
@@ -29,14 +26,3 @@ puts_object a b c d begun (ts, (ms, is), put) ended = (
       (puts_more a b d (Token.begin_object ∷ []) (ts ++ Token.end_object ∷ []) begun
       (puts_more b c d ts (Token.end_object ∷ []) put ended)),
 )
-
--- Fields between brackets are written.
-pub puts_fields : (es : List Event) (a b c d : Written) → Puts a b (Token.begin_object ∷ [])
-    → (c.before, c.tokens) ≡ fold then_event (b.before, b.tokens) es → Puts c d (Token.end_object ∷ [])
-    → Puts a d (object_tokens es)
-puts_fields es a b c d begun handed ended =
-    let all = handed ∙ written_after es (b.before, b.tokens) in
-    let put : Puts b c (all_tokens es) =
-    (ap (λ (t : List ℕ × List Token). t.0) all, ap (λ (t : List ℕ × List Token). t.1) all) in
-    puts_more a b d (Token.begin_object ∷ []) (all_tokens es ++ Token.end_object ∷ []) begun
-    (puts_more b c d (all_tokens es) (Token.end_object ∷ []) put ended)

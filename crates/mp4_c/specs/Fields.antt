@@ -1,12 +1,11 @@
 -- The fields of a box that a call copies to a C caller: the status, the text in the caller's array, and its length.
-use Rattle.std.specs.Prelude.{◌≡◌, ℕ, ◌⊎◌, ◌==◌, Bool, nat_le, List, [], ◌∷◌, ◌++◌, length, None, Some, Result, Ok, Err}
+use Rattle.std.specs.Prelude.{◌≡◌, ℕ, ◌⊎◌, ◌==◌, Bool, nat_le, List, length, None, Some, Result, Ok, Err}
 use Rattle.std.specs.Prelude.{if◌then◌else◌}
 use Rattle.std.specs.List.{slice_range}
 use Rattle.std.specs.Str.{IsUtf8}
 use Rattle.std.specs.declared.option.Option.{Option}
 use Rattle.json.specs.Json.{Members, object}
 use Rattle.json.specs.Print.{print}
-use Rattle.json.specs.Token.{Token}
 use Rattle.json.specs.Tree.{json_tokens}
 use Rattle.json.specs.Written.{Written}
 use Rattle.mp4_c_boxes.specs.Calls.{Fills}
@@ -14,7 +13,7 @@ use Rattle.mp4_c_boxes.specs.Status.{status_of}
 use Rattle.mp4_c_boxes.specs.declared.status.TheConstants.{OUT_OF_MEMORY}
 use Rattle.mp4_c.specs.declared.fields.TheConstants.{UNKNOWN_BOX}
 use Rattle.mp4_c.specs.Front.{front_known}
-use Rattle.mp4_content.specs.Fields.{json_view}
+use Rattle.mp4_content.specs.Fields.{json_view, object_tokens}
 use Rattle.mp4_frame.specs.Heads.{content_in, end_in, frame}
 use Rattle.mp4_frame.specs.Reading.{Fault, Reading, Refuses}
 use Rattle.mp4_frame.specs.declared.box_type.BoxType.{BoxType}
@@ -25,7 +24,7 @@ use Rattle.mp4_show.specs.Escaped.{json_escaped}
 use Rattle.mp4_show.specs.FrontFields.{reference_fields}
 use Rattle.mp4_shown.specs.Event.{Event}
 use Rattle.mp4_shown.specs.declared.view.View.{View}
-use Rattle.mp4_shown_json.specs.Tokens.{Puts, all_tokens}
+use Rattle.mp4_shown_json.specs.Tokens.{Puts}
 
 -- the content of a whole box at the front, if it is a `url `
 abbrev pub url_in : List ℕ → Result Frame Fault → Option (List ℕ)
@@ -40,10 +39,6 @@ front_url bytes = url_in bytes (frame bytes 0)
 abbrev pub fields_or : Option (List ℕ) → List Event → List Event
 fields_or None es = es
 fields_or (Some content) es = if nat_le 4 (length content) then reference_fields content else es
-
--- fields as one object
-abbrev pub object_tokens : List Event → List Token
-object_tokens es = Token.begin_object ∷ (all_tokens es ++ Token.end_object ∷ [])
 
 -- One whole object is written.
 abbrev pub PutsObject : Written → Written → Type 0

@@ -6,6 +6,7 @@ pub mod Samples
 pub mod FragmentSamples
 pub mod Levels
 pub mod Walks
+pub mod FromJson
 pub mod Front
 pub mod Fields
 pub mod TextParts

@@ -3,9 +3,9 @@
 ghost use Rattle.std.specs.Prelude.{◌≡◌, OnOk, IfOk};
 ghost use Rattle.std.specs.Option.{option_copied};
 ghost use Rattle.mp4_c.specs.Fields.{CopiesFields, CopiesFieldsText, IsFieldsText, IsWholeText, PutsObject, fields_or};
-ghost use Rattle.mp4_c.specs.Fields.{front_url, object_tokens};
+ghost use Rattle.mp4_c.specs.Fields.{front_url};
 ghost use Rattle.mp4_compose.specs.Either.{known_or, reading_or};
-ghost use Rattle.mp4_content.specs.Fields.{json_view};
+ghost use Rattle.mp4_content.specs.Fields.{json_view, object_tokens};
 ghost use Rattle.mp4_shown.specs.Hands.{Hands};
 ghost use Rattle.mp4_shown.specs.Members.{HandsMembers};
 ghost use Rattle.mp4_shown_json.specs.Tokens.{Puts};

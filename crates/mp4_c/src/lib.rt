@@ -3,10 +3,11 @@
 //! `include/mp4_box_codec.h` at the top of the repository declares these functions, and says what the caller ensures.
 //! `docs/C.md` explains a calling program. The functions are of these kinds:
 //!
-//! - `check`, `list`, `find`, `fields` and `normal` take the bytes of a file or of a box of any type.
+//! - `check`, `list`, `find`, `fields` and `normal` take the bytes of a file or of a box of any type, and `from_json`
+//!   writes such a box.
 //! - `samples` and `fragment_samples` list the samples of a track.
-//! - `file_faults` lists what `mp4inspect check` finds in a file, and `file_info` what `mp4inspect info` knows of it.
-//! - `rewriting` plans new files as pieces (`new_file`), as `mp4remux` writes them. `change` reads their changes.
+//! - `file_faults` lists what `mp4inspect check` finds in a file, and `file_info` what `mp4inspect info` shows of it.
+//! - `rewriting` plans the files of `mp4remux` as pieces (`new_file`). `change` reads their changes.
 //! - `file_walk` visits the boxes of a file that isn't in memory.
 //! - `about` gives the version and the meaning of a status.
 //! - `flat`, `tables`, `text`, `entries` and `sound` read and write the boxes of `mp4_flat`, `mp4_tables` and so on.
@@ -29,6 +30,7 @@ pub mod find;
 pub mod flat;
 pub mod found_box;
 pub mod fragment_samples;
+pub mod from_json;
 pub mod front_box;
 pub mod list;
 pub mod new_file;

@@ -220,7 +220,7 @@ pub extern "C" fn mp4_edit(
     }
 }
 
-/// Plans the file `bytes` with all samples in fragments, as `options` ask for. Copies the pieces to `pieces` and the
+/// Plans the file `bytes` with all samples in fragments, by `options`. Copies the pieces to `pieces` and the
 /// new bytes to `new_bytes`, or the reason of a refusal to `text`, and fills `file`. Returns the status.
 #[unsafe(no_mangle)]
 pub extern "C" fn mp4_fragment(

@@ -1,6 +1,7 @@
 use Rattle.std.specs.Option.{option_copied}
-use Rattle.mp4_c.proofs.Objects.{puts_fields, puts_object}
+use Rattle.mp4_c.proofs.Objects.{puts_object}
 use Rattle.mp4_c.specs.Fields.{fields_or}
+use Rattle.mp4_content.proofs.ObjectText.{puts_fields}
 use Rattle.mp4_content.specs.Fields.{json_view}
 use Rattle.mp4_shown_json.proofs.Puts.{puts_members}
 use Rattle.mp4_c.proofs.fields.put_object.Goals as goal
