@@ -6,7 +6,8 @@
     tools/describe.py --page     print the page about the fields of each box, docs/FIELDS.md
     tools/describe.py --write    write all three files
 
-tools/python_classes.py makes the classes for Python from the description, so run it afterwards.
+tools/python_classes.py makes the classes for Python from the description, and tools/rust_structs.py the structs for
+Rust, so run these afterwards.
 
 The description follows the declarations in the sources: the shape of a box, and the names beside it. Tests compare the
 files with the sources, and the fields of boxes with the schema.
@@ -33,6 +34,8 @@ PAGE = "docs/FIELDS.md"
 TOKEN = re.compile(r'\s*(?:(b?"(?:[^"\\]|\\.)*")|(\w+!?)|(::|.))')
 BITS = {"U8": 8, "U16": 16, "U24": 24, "U32": 32, "U64": 64}
 SIGNED_BITS = {"I8": 8, "I16": 16, "I32": 32}
+# Numbers that have a meaning only under a condition, by which `NamedBy` chooses their name.
+MEANT_IF = {"data_type": {"when": "type_set is 0"}}
 
 
 class Unknown(Exception):
@@ -181,7 +184,7 @@ def number(name, bits, signed=False):
         field["signed"] = True
     kind, argument = look
     if kind == "Named":
-        derived = {"name": f"{text}_name", "kind": "text", "of": text, "optional": True}
+        derived = {"name": f"{text}_name", "kind": "text", "of": text, "optional": True, **MEANT_IF.get(text, {})}
         return [{**field, **meanings(table)}, derived]
     if kind == "Flags":
         return [{**field, "kind": "flags", "digits": argument, **meanings(table)}]
@@ -542,12 +545,16 @@ def set_code(_, names):
     return [{"name": names, "kind": "code", "optional": True}]
 
 
+def handler_name(_, names):
+    return run(names)
+
+
 def item_id(_, names):
     return [{**field, "bits_by_version": [16, 32]} for field in number(names, 32)]
 
 
 OWN = {
-    "ItemId": item_id, "SetCode": set_code,
+    "ItemId": item_id, "NameShown": handler_name, "SetCode": set_code,
     "ProtectionSystem": protection_system,
     "ChannelMapping": channel_mapping, "BlockData": flac_block_data, "Country": locale, "Language": locale,
     "TypedValue": typed_value, "SampleSizes": sample_sizes,
@@ -677,7 +684,37 @@ as they spell them. [boxes.json](boxes.json) has them for other programs, with t
 [boxes.schema.json](boxes.schema.json) is a JSON schema. `tools/describe.py` makes all three from the declarations of
 the boxes of `mp4_extra`. The codec's own boxes are shown under the names of [LAYOUT.md](LAYOUT.md).
 
+The structs for Rust are in the module `extra` of the crate ([RUST.md](RUST.md#all-fields-of-a-box)), with the names of
+fields in Rust's case: `frameLength` is `frame_length`. The classes for Python have the name of the code, such as `Pasp`
+([PYTHON.md](PYTHON.md#boxes)). Those of `avcC`, `esds`, `hdlr`, `tx3g` and `vpcC` have the fields of the header.
+
 A field is present in each box of its type unless the last column says when it is.
+
+## Boxes from JSON
+
+`mp4_box_from_json` of the library writes a box from its JSON, and `mp4remux edit --set` changes one field in it. In
+Rattle `ExtraBox::from_json` reads a box back from its JSON, and `read_codec` of `mp4_show` one of the codec's 36 boxes
+([how](../crates/mp4_shown/CALLING.md#taking)). The JSON is an object with the fields of the box:
+
+- The names may have any order. A field that is missing, a name that the box doesn't have, and a name that comes
+  twice are refused.
+- A field without meaning for this version, these flags or this type must be absent.
+- These members are *derived*. They may be left out, and are refused if they contradict their field:
+    - the count of a list;
+    - the meaning of a number, whose name ends in `_name`;
+    - `first_sample` in `stsc`;
+    - `AudioSpecificConfig` in `esds`, which follows from the first of `decoder_descriptors`;
+    - a text or a number beside its bytes, whose name ends in `_hex`.
+- Reserved bits may be left out if they have the standard's value. Bytes that are present only if there are some, and
+  empty lists of bytes, may be left out.
+- A byte that counts the bytes after it, such as `default_constant_IV_size`, may be left out. Another number than
+  theirs is kept, since files have such numbers.
+- A whole number is written without a point or an exponent. A fixed-point number may have both, up to 37 digits. It is
+  rounded to the nearest number that the field can have.
+- Bytes are texts of hexadecimal digits, in either case. Codes are texts of four characters, each of the number of its
+  byte.
+
+A refusal has the path of the member and a reason: `references[3].SAP_type does not fit the field`.
 """
 WIDTH = 120
 
@@ -722,7 +759,7 @@ def page():
     found = [HEAD]
     for box in boxes():
         title = textwrap.fill(f"{box['title']} ({box['standard']}).", WIDTH)
-        found.append(f"## `{box['code']}`\n\n{title}\n\nIn Rattle it is a "
+        found.append(f"## `{box['code']}`\n\n{title}\n\nIn Rattle and in Rust it is a "
                      f"[`{box['type']}`](../{box['source']}).\n\nfield | kind | present\n---|---|---\n"
                      + "\n".join(rows_of(box["fields"])) + "\n")
     return "\n".join(found)

@@ -1,5 +1,5 @@
-"""Adds a box in a copy, by the steps of docs/internals/MAP.md, reads and writes it there as tests/rows does, and shows
-it by mp4inspect.
+"""Adds a box in a copy, by the steps of docs/internals/MAP.md, reads and writes it there as tests/rows does, reads it
+back from its JSON, and shows it by mp4inspect.
 
 The box is `padb`, the padding bits of samples (ISO/IEC 14496-12, 8.7.6). Its own file, the function that reads its
 fields in the slow reader, and its rows are below. In each other file of the crates its lines are copies
@@ -31,7 +31,7 @@ LIKE = "mfro"
 # The largest number of lists of the crates, besides that of the codes, that a box may need an entry in.
 MOST_LISTS = 10
 # The largest number of lines of code and definitions that a box of a few numbers may take.
-MOST = 70
+MOST = 76
 # The function of the slow reader that reads the fields.
 READER = '''def padb(c):
     c.full(1)
@@ -45,11 +45,14 @@ BOX = '''//! The padding bits box.
 ghost use Rattle.mp4_declared.specs.OwnBox.{layout_of};
 ghost use Rattle.mp4_extra_samples.specs.declared.padb.TheConstants.{NAMES};
 ghost use Rattle.mp4_frame.specs.declared.codes.TheConstants as codes;
+ghost use Rattle.mp4_shown.specs.TakenShapes.{declared_taken};
 ghost use Rattle.std.proofs.Common.{refl, lit<};
 
 use mp4_declared::declaring::*;
 use mp4_frame::{Result, codes};
+use mp4_shown::taken::{self, Object, TakeFields, TakeShape, take_declared};
 use mp4_shown::{FieldSink, HasFields, NamedShape, ShowShape, View, names_of, number, run};
+use std::alloc::Global;
 
 /// The padding bits at the end of each sample (`padb`, ISO/IEC 14496-12, 8.7.6).
 #[derive(Debug, Drop, PartialEq, Eq)]
@@ -109,6 +112,14 @@ impl HasFields for Padb {
     fn show<K: FieldSink>(&self, view: View, sink: &mut K) -> mp4_shown::Result<()> {
         let parts = parts_of!(self => version, flags, sample_count, pads.as_slice());
         PadbShape::show(NAMES, view, &parts, sink)
+    }
+}
+
+impl TakeFields for Padb {
+    ghost taken = { declared_taken ⟦<Padb as DeclaredBox>⟧.layout (⟦<PadbShape as TakeShape>⟧.taken NAMES.now) };
+
+    fn take(alloc: Global, object: &mut Object<'_>) -> taken::Result<Padb> {
+        take_declared::<Padb, PadbShape>(alloc, NAMES, object)
     }
 }
 

@@ -3,8 +3,9 @@
 use std::io::Write;
 
 use crate::calls::{converted, filled, read_by, roomy, written};
-use crate::{raw, CttsEntry, ElstEntry, Error, FixedPointI8, FixedPointU16, FixedPointU8, FourCC, Matrix, RgbColor};
-use crate::{StscEntry, SttsEntry, TrunEntry};
+use crate::json::made;
+use crate::{fields, raw, CttsEntry, ElstEntry, Error, FixedPointI8, FixedPointU16, FixedPointU8, FourCC, Matrix};
+use crate::{RgbColor, StscEntry, SttsEntry, TrunEntry};
 
 /// A box that is read into a struct.
 ///
@@ -24,13 +25,34 @@ pub trait ReadBox: Sized {
     /// Reads the box at the front of `bytes`, which begin with its header. `Fault::InvalidData` for a box of another
     /// type.
     fn read_box(bytes: &[u8]) -> Result<Self, Error>;
+
+    /// Returns the box whose fields are those of a JSON object, by the rules of `box_from_json`. `Error::Json` has the
+    /// member that is wrong.
+    ///
+    /// ```
+    /// use mp4_box_codec::{extra::PaspBox, Error, ReadBox};
+    ///
+    /// let pasp = PaspBox::from_json(r#"{"vSpacing": 3, "hSpacing": 4}"#)?;
+    /// assert_eq!(pasp, PaspBox { h_spacing: 4, v_spacing: 3 });
+    /// let error = PaspBox::from_json(r#"{"vSpacing": 3}"#).unwrap_err();
+    /// assert_eq!(error.to_string(), "the box 'pasp' can't be written: hSpacing is missing");
+    /// # Ok::<(), Error>(())
+    /// ```
+    fn from_json(json: &str) -> Result<Self, Error> {
+        Self::read_box(&made(Self::CODE, json)?)
+    }
 }
 
 /// A box that is written from a struct.
 pub trait WriteBox: ReadBox {
     /// Returns the bytes of the box, including its header. `Error::Unwritable` if a number doesn't fit its field, or
-    /// if fields disagree.
+    /// if fields disagree. For a struct of `extra` it is `Error::Json`, which has the name of the field.
     fn to_bytes(&self) -> Result<Vec<u8>, Error>;
+
+    /// Returns the fields of the box as the text of a JSON object, like `fields`.
+    fn to_json(&self) -> Result<String, Error> {
+        fields(&self.to_bytes()?)
+    }
 
     /// Writes the box to `writer`, including its header, and returns the number of its bytes.
     fn write_box<W: Write>(&self, writer: &mut W) -> Result<u64, Error> {

@@ -22,7 +22,7 @@ fn is_for(version: u32, major: u32, minor: u32) -> bool {
 }
 
 /// Refuses a library of another version. All functions except `version` call this before they call the library.
-fn library() -> Result<(), Error> {
+pub(crate) fn library() -> Result<(), Error> {
     let found = version();
     if is_for(found, MAJOR, MINOR) {
         Ok(())

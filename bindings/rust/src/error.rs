@@ -6,7 +6,7 @@ use std::fmt;
 use std::io;
 
 use crate::calls::{MAJOR, MINOR};
-use crate::{raw, FourCC};
+use crate::{raw, FourCC, JsonFault};
 
 /// Something wrong in the bytes of a box or a file.
 #[derive(Clone, Copy, Debug, PartialEq, Eq, Hash)]
@@ -120,6 +120,15 @@ pub enum Error {
     },
     /// A box of this type can't be written: a number doesn't fit its field, or fields disagree.
     Unwritable(FourCC),
+    /// A box of this type can't be written, or made from JSON, because of one of its members.
+    Json {
+        /// The code of the box.
+        code: FourCC,
+        /// The member, and what is wrong with it.
+        fault: JsonFault,
+    },
+    /// The library shows a box of this type with fields that this crate doesn't know.
+    UnknownFields(FourCC),
     /// There is no such new file.
     Refused {
         /// The reason, in the words of `mp4remux`.
@@ -167,6 +176,8 @@ impl fmt::Display for Error {
             Error::Unwritable(code) => {
                 write!(f, "the box '{code}' can't be written: a number doesn't fit its field, or fields disagree")
             }
+            Error::Json { code, fault } => write!(f, "the box '{code}' can't be written: {fault}"),
+            Error::UnknownFields(code) => write!(f, "the library shows a '{code}' with fields that this crate lacks"),
             Error::Refused { reason } => f.write_str(reason),
             Error::TrakNotFound(track_id) => write!(f, "no track has the track_ID {track_id}"),
             Error::InvalidPath => f.write_str("the text is not a path such as moov/trak[1]/mdia"),
@@ -201,6 +212,8 @@ impl PartialEq for Error {
                 (position, path, fault) == (at, name, why)
             }
             (Error::Unwritable(a), Error::Unwritable(b)) => a == b,
+            (Error::Json { code, fault }, Error::Json { code: other, fault: why }) => (code, fault) == (other, why),
+            (Error::UnknownFields(a), Error::UnknownFields(b)) => a == b,
             (Error::Refused { reason }, Error::Refused { reason: other }) => reason == other,
             (Error::IoError(a), Error::IoError(b)) => a.kind() == b.kind(),
             (Error::TrakNotFound(a), Error::TrakNotFound(b)) => a == b,

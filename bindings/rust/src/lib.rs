@@ -3,7 +3,8 @@
 //! - `tree` and `tree_of` return all boxes of a file, `tracks` its tracks, and `samples` the samples of a track.
 //! - `check_file` returns the faults of a file, and `info` what the file and its tracks are.
 //! - `ReadBox` and `WriteBox` read and write single boxes. Structs have the names of the crate `mp4`.
-//! - `fields` returns the fields of a box of any of 103 types as JSON.
+//! - The module `extra` has structs for 74 types of boxes more, with all fields of each.
+//! - `fields` returns the fields of a box of any of 103 types as JSON, and `box_from_json` the box of such fields.
 //! - `faststart`, `edit`, `fragment`, `defragment` and `cut` plan the new files that `mp4remux` writes.
 //!
 //! Numbers such as (8.3.2) are sections of ISO/IEC 14496-12. The results of the library are proved for all bytes;
@@ -27,13 +28,17 @@ mod calls;
 mod code;
 mod entries;
 mod error;
+pub mod extra;
 mod faults;
 mod info;
+mod json;
+mod members;
 mod new_file;
 mod numbers;
 #[allow(missing_docs)]
 mod raw;
 mod rows;
+mod structs;
 mod texts;
 mod track;
 mod tree;
@@ -49,6 +54,7 @@ pub use entries::{DecoderConfigDescriptor, DecoderSpecificDescriptor, ESDescript
 pub use error::{Error, Fault};
 pub use faults::{check_file, FaultCode, FileFault, Severity};
 pub use info::{info, Encryption, FileInfo, FrameRate, Picture, SampleTotals, Sound, TrackInfo};
+pub use json::{box_from_json, check_json, JsonFault};
 pub use new_file::{cut, defragment, edit, faststart, fragment, Change, FragmentOptions, NewFile, Piece};
 pub use numbers::{DataType, FixedPointI8, FixedPointU16, FixedPointU8, Matrix, RgbColor, RgbaColor, TrackType};
 pub use rows::{CttsEntry, ElstEntry, Place, Sample, Span, StscEntry, SttsEntry, TrunEntry};

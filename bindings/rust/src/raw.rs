@@ -134,6 +134,7 @@ structs! {
     TextPart { position: usize, length: usize, }
     FaultRow { position: u64, path: TextPart, text: TextPart, code: u32, severity: u32, }
     FaultTable { count: usize, text_bytes: usize, }
+    JsonFault { path: TextPart, text: TextPart, text_bytes: usize, reason: u32, }
     TrackSamples {
         sample_count: u64, key_frames: u64, bytes: u64, end: u64, bit_rate: u64, frames: u64, frame_units: u64,
         is_constant: u8,
@@ -236,6 +237,22 @@ extern "C" {
     pub fn mp4_version() -> u32;
     pub fn mp4_status_text(status: u32, text: *mut u8, places: usize, count: *mut usize) -> u32;
     pub fn mp4_walk_begin(length: u64, walk: *mut Walk) -> u32;
+    pub fn mp4_box_from_json(
+        code: u32,
+        json: *const u8,
+        json_length: usize,
+        bytes: *mut u8,
+        places: usize,
+        length: *mut usize,
+    ) -> u32;
+    pub fn mp4_check_json(
+        code: u32,
+        json: *const u8,
+        json_length: usize,
+        text: *mut u8,
+        places: usize,
+        fault: *mut JsonFault,
+    ) -> u32;
     #[cfg(test)]
     pub fn mp4_fault_name(code: u32, text: *mut u8, places: usize, count: *mut usize) -> u32;
 }

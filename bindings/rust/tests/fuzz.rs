@@ -96,7 +96,44 @@ fn boxes() -> Vec<Vec<u8>> {
     found.extend(tables);
     found.extend([elst, trun, tfhd, tfdt, mdhd, hdlr, tkhd, dref]);
     found.extend(others);
+    found.extend(extra_boxes());
     found
+}
+
+/// Returns boxes of the module `extra`: with lists, groups, texts, and fields that may be absent.
+fn extra_boxes() -> [Vec<u8>; 9] {
+    let reference = extra::TrefReference { reference_type: FourCC::new(b"hint"), track_ids: vec![3, 4] };
+    let group = extra::SgpdEntry { roll_distance: Some(-1), ..Default::default() };
+    let groups = extra::SgpdBox {
+        version: 1,
+        grouping_type: FourCC::new(b"roll"),
+        default_length: Some(2),
+        entry_count: 2,
+        entries: Some(vec![group; 2]),
+        ..Default::default()
+    };
+    let part = extra::SubsSubsample { subsample_size: 5, ..Default::default() };
+    let parts = extra::SubsEntry { sample_delta: 1, subsamples: vec![part; 2] };
+    let colours = extra::ColrBox {
+        colour_type: FourCC::new(b"nclx"),
+        colour_primaries: Some(1),
+        transfer_characteristics: Some(1),
+        matrix_coefficients: Some(1),
+        full_range_flag: Some(true),
+        ..Default::default()
+    };
+    let value = extra::DataBox { data_type: 21, number: Some(-2), ..Default::default() };
+    [
+        bytes_of(&extra::TrefBox { references: vec![reference] }),
+        bytes_of(&groups),
+        bytes_of(&extra::SubsBox { entries: vec![parts], ..Default::default() }),
+        bytes_of(&colours),
+        bytes_of(&value),
+        bytes_of(&extra::KindBox { scheme_uri: "é".into(), ..Default::default() }),
+        bytes_of(&extra::PsshBox { version: 1, kid: Some(vec![[1; 16]; 2]), data: vec![2], ..Default::default() }),
+        bytes_of(&extra::GminBox { balance: FixedPointI8::new(-1), ..Default::default() }),
+        bytes_of(&extra::Tx3gBox::default()),
+    ]
 }
 
 /// Reads a box, writes it, and reads it again.
@@ -109,6 +146,20 @@ fn again<B: WriteBox>(bytes: &[u8]) -> usize {
         let read = B::read_box(&written).unwrap_or_else(|why| panic!("{} from {bytes:02x?}: {why}", B::CODE));
         assert_eq!(read.to_bytes().as_ref(), Ok(&written), "{} from {bytes:02x?}", B::CODE);
     }
+    1
+}
+
+/// Reads a box into a struct of `extra`, and writes it. Its fields have to stay the same.
+fn extra_again(bytes: &[u8]) -> usize {
+    let value = match extra::ExtraBox::read_box(bytes) {
+        Ok(value) => value,
+        Err(why) => {
+            let is_other = why == Fault::UnknownBox.into() || why == Fault::EndOfInput.into();
+            assert!(is_other || fields(bytes) == Err(why), "{bytes:02x?}");
+            return 0;
+        }
+    };
+    assert_eq!(value.to_json(), fields(bytes), "{bytes:02x?}");
     1
 }
 
@@ -155,7 +206,7 @@ fn call(file: &[u8]) -> usize {
         }
         let _ = it.fields(file);
         count += it.bytes(file).map_or(0, |bytes| {
-            read_all! { bytes;
+            extra_again(bytes) + read_all! { bytes;
                 MvhdBox TkhdBox MdhdBox MehdBox MfhdBox SmhdBox VmhdBox TrexBox TfdtBox TfhdBox StszBox StcoBox Co64Box
                 StssBox SttsBox CttsBox StscBox ElstBox TrunBox FtypBox HdlrBox DrefBox EmsgBox StsdBox;
                 DataBox UrlBox DinfBox HvcCBox Hev1Box VpccBox Vp09Box Tx3gBox EsdsBox Mp4aBox AvcCBox Avc1Box

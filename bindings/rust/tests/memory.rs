@@ -103,6 +103,20 @@ fn refused_requests() {
     each_refused(2, || list(&bytes));
     // The brands of the library, and those of the crate.
     each_refused(2, || info(&bytes));
+    // The JSON of 104 bytes takes five requests, for 8 to 128 bytes, and the output one.
+    let reference = extra::TrefReference { reference_type: FourCC::new(b"hint"), track_ids: vec![3, 4] };
+    let references = extra::TrefBox { references: vec![reference; 2] };
+    each_refused(6, || references.to_bytes());
+    each_refused(7, || references.to_json());
+    // The JSON, the list of references, and the code and the numbers of each.
+    let bytes = references.to_bytes().unwrap();
+    each_refused(6, || extra::TrefBox::read_box(&bytes));
+    each_refused(2, || extra::TrefBox::from_json(r#"{"references":[]}"#));
+    // The JSON, two texts, and the bytes of one.
+    let role = extra::KindBox { value: "\u{FFFD}".into(), value_hex: Some(vec![0xFF]), ..extra::KindBox::default() };
+    let bytes = role.to_bytes().unwrap();
+    each_refused(4, || extra::KindBox::read_box(&bytes));
+
     // The output, and the text of the language.
     let media = MdhdBox::default();
     each_refused(1, || media.to_bytes());

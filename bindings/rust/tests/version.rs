@@ -29,6 +29,8 @@ fn another_version_is_refused() {
         StssBox SttsBox CttsBox StscBox ElstBox TrunBox FtypBox HdlrBox DrefBox StsdBox
     }
     found.push(EmsgBox { presentation_time_delta: Some(0), ..EmsgBox::default() }.to_bytes().err());
-    assert_eq!(found.len(), 72);
+    found.extend([extra::PaspBox::read_box(bytes).err(), extra::PaspBox::from_json("{}").err()]);
+    found.extend([extra::PaspBox::default().to_bytes().err(), FtypBox::default().to_json().err()]);
+    assert_eq!(found.len(), 76);
     assert!(found.iter().all(|it| *it == Some(why())), "{found:?}");
 }
