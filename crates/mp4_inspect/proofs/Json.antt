@@ -11,11 +11,10 @@ use Rattle.std.specs.declared.option.Option.{Option}
 use Rattle.std.proofs.Math.Seq.{drop-cons}
 use Rattle.std.proofs.lemmas.List.{drop_all}
 use Rattle.std.specs.Prelude.{codes}
-use Rattle.std.specs.List.{fold}
 use Rattle.json.specs.Token.{Token}
 use Rattle.json.specs.Written.{Written}
 use Rattle.mp4_inspect.specs.Json.{number_member, type_token, head_tokens, fields_tokens, IsRest, end_tokens}
-use Rattle.mp4_inspect.specs.Json.{levels_end, object_tokens}
+use Rattle.mp4_inspect.specs.Json.{levels_end}
 use Rattle.mp4_inspect.specs.Json.{box_tokens, open_inside, open_after, IsShown, AreBoxes, file_tokens, IsJson, comma}
 use Rattle.mp4_inspect.specs.Json.{WritesJson}
 use Rattle.std.proofs.Math.Bool.{or_assoc, or-false}
@@ -23,14 +22,14 @@ use Rattle.mp4_inspect.proofs.WholeJson.{whole_json}
 use Rattle.mp4_frame.specs.Reading.{Reading}
 use Rattle.mp4_frame.specs.declared.box_type.BoxType.{BoxType}
 use Rattle.json.specs.Print.{print}
+use Rattle.mp4_content.specs.Fields.{object_tokens}
 use Rattle.mp4_content.specs.declared.content.Content.{Content}
 use Rattle.mp4_show.specs.Escaped.{json_escaped}
 use Rattle.mp4_shown.specs.Event.{Event}
 use Rattle.mp4_shown.specs.Members.{AreMembers}
 use Rattle.mp4_shown.specs.declared.view.View.{View}
-use Rattle.mp4_shown_json.proofs.AllTokens.{written_after}
 use Rattle.mp4_shown_json.proofs.Puts.{puts_more, puts_then}
-use Rattle.mp4_shown_json.specs.Tokens.{Puts, all_tokens, then_event}
+use Rattle.mp4_shown_json.specs.Tokens.{Puts}
 use Rattle.mp4_walk.specs.FileBoxes.{boxes_of}
 use Rattle.mp4_walk.specs.declared.tree_box.TreeBox.{TreeBox}
 
@@ -50,21 +49,7 @@ puts_head r found a b c d e f begun type position size header =
     (puts_then r c d f (number_member (codes "position") found.position) places position
     (puts_then r d e f (number_member (codes "length") found.length) head size header)))
 
--- the tokens of these events are written
-puts_events : (a b : Written) (es : List Event) → (b.before, b.tokens) ≡ fold then_event (a.before, a.tokens) es
-    → Puts a b (all_tokens es)
-puts_events a b es handed =
-    let all = handed ∙ written_after es (a.before, a.tokens) in
-    (ap (λ (t : List ℕ × List Token). t.0) all, ap (λ (t : List ℕ × List Token). t.1) all)
-
--- the fields of a box, in an object
-pub puts_object : (es : List Event) (a b c d : Written) → Puts a b (Token.begin_object ∷ [])
-    → (c.before, c.tokens) ≡ fold then_event (b.before, b.tokens) es → Puts c d (Token.end_object ∷ [])
-    → Puts a d (object_tokens es)
-puts_object es a b c d begun handed ended =
-    puts_more a b d (Token.begin_object ∷ []) (all_tokens es ++ Token.end_object ∷ []) begun
-    (puts_more b c d (all_tokens es) (Token.end_object ∷ []) (puts_events b c es handed) ended)
-
+-- the member with the fields of a box
 pub puts_fields : (es : List Event) (a b c : Written) → Puts a b (Token.key (codes "fields") ∷ [])
     → Puts b c (object_tokens es) → Puts a c (fields_tokens es)
 puts_fields es a b c named put = puts_more a b c (Token.key (codes "fields") ∷ []) (object_tokens es) named put

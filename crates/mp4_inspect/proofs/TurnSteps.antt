@@ -13,7 +13,7 @@ use Rattle.json.specs.Json.{document, if_last, max_depth, value}
 use Rattle.json.specs.Lex.{tokens}
 use Rattle.json.specs.Token.{Token}
 use Rattle.mp4_content.specs.Content.{ShowsAs}
-use Rattle.mp4_content.specs.Fields.{content_fields, is_quicktime, json_view}
+use Rattle.mp4_content.specs.Fields.{content_fields, is_quicktime, json_view, object_tokens}
 use Rattle.mp4_content.specs.Kind.{kind_of}
 use Rattle.mp4_content.specs.declared.content.Content.{Content}
 use Rattle.mp4_frame.specs.Reading.{Reading}
@@ -21,7 +21,6 @@ use Rattle.mp4_frame.specs.declared.box_type.BoxType.{BoxType}
 use Rattle.mp4_inspect.specs.Field.{line_at}
 use Rattle.mp4_inspect.specs.FieldLines.{HasLine, IsLine, TellsLine}
 use Rattle.mp4_inspect.specs.InTurn.{InTurn, BoxText, WritesFirst, WritesInTurn, WritesOne}
-use Rattle.mp4_inspect.specs.Json.{object_tokens}
 use Rattle.mp4_io.specs.Ends.{WritesAll, is_write}
 use Rattle.mp4_io.specs.declared.failure.Failure.{Failure}
 use Rattle.mp4_io.specs.declared.failure.Failure.TheVariants as failures

@@ -3,14 +3,13 @@ use Rattle.std.specs.Prelude.{◌≡◌, ℕ, Bool, List, [], Option, option_and
 use Rattle.std.specs.Option.{is_some, unwrap_or}
 use Rattle.json.specs.Json.{Json, if_last, max_depth, value}
 use Rattle.mp4_content.specs.Content.{ShowsAs}
-use Rattle.mp4_content.specs.Fields.{content_fields, is_quicktime, json_view}
+use Rattle.mp4_content.specs.Fields.{content_fields, is_quicktime, json_view, object_tokens}
 use Rattle.mp4_content.specs.Kind.{kind_of}
 use Rattle.mp4_content.specs.declared.content.Content.{Content}
 use Rattle.mp4_frame.specs.Reading.{Reading}
 use Rattle.mp4_frame.specs.declared.box_type.BoxType.{BoxType}
 use Rattle.mp4_inspect.specs.Field.{line_at}
 use Rattle.mp4_inspect.specs.InTurn.{BoxText}
-use Rattle.mp4_inspect.specs.Json.{object_tokens}
 use Rattle.mp4_shown.specs.Event.{Event, shown_of}
 use Rattle.mp4_shown.specs.declared.value.Value.{Value}
 use Rattle.mp4_shown.specs.declared.view.View.{View}

@@ -12,7 +12,7 @@ use Rattle.mp4_frame.specs.declared.box_type.BoxType.{BoxType}
 use Rattle.mp4_frame.specs.declared.four_cc.FourCC.{FourCC}
 use Rattle.mp4_content.specs.Content.{ShowsAs, is_faulty}
 use Rattle.mp4_content.specs.FaultText.{IsFaultText}
-use Rattle.mp4_content.specs.Fields.{front_fields, is_quicktime, json_view}
+use Rattle.mp4_content.specs.Fields.{front_fields, is_quicktime, json_view, object_tokens}
 use Rattle.mp4_content.specs.Kind.{kind_of}
 use Rattle.mp4_content.specs.declared.content.Content.{Content}
 use Rattle.mp4_content.specs.declared.content.Content.TheVariants as contents
@@ -20,7 +20,7 @@ use Rattle.mp4_show.specs.Escaped.{json_escaped}
 use Rattle.mp4_shown.specs.Event.{Event, shown_of}
 use Rattle.mp4_shown.specs.declared.value.Value.{Value}
 use Rattle.mp4_shown.specs.declared.view.View.{View}
-use Rattle.mp4_shown_json.specs.Tokens.{all_tokens, code_text}
+use Rattle.mp4_shown_json.specs.Tokens.{code_text}
 use Rattle.mp4_shown_json.specs.Whole.{IsWhole}
 use Rattle.mp4_walk.specs.FileBoxes.{boxes_of}
 use Rattle.mp4_walk.specs.declared.tree_box.TreeBox.{TreeBox}
@@ -41,11 +41,7 @@ head_tokens found =
     ∷ (number_member (codes "position") found.position
     ++ (number_member (codes "length") found.length ++ number_member (codes "header") found.header_length))
 
--- the object of the fields of a box with these events: their members
-abbrev pub object_tokens : List Event → List Token
-object_tokens es = Token.begin_object ∷ (all_tokens es ++ Token.end_object ∷ [])
-
--- the member with this object
+-- the member with the object of the fields of a box
 abbrev pub fields_tokens : List Event → List Token
 fields_tokens es = Token.key (codes "fields") ∷ object_tokens es
 

@@ -4,11 +4,10 @@ ghost use Rattle.std.specs.Prelude.{◌≡◌, [], ◌||◌, false, IfOk, IfSome
 ghost use Rattle.std.specs.Option.{is_some, unwrap_or};
 ghost use Rattle.std.specs.Str.{IsUtf8};
 ghost use Rattle.json.specs.Lex.{tokens};
-ghost use Rattle.mp4_content.specs.Fields.{content_fields, json_view};
+ghost use Rattle.mp4_content.specs.Fields.{content_fields, json_view, object_tokens};
 ghost use Rattle.mp4_io.specs.Ends.{WritesAll, is_write};
 ghost use Rattle.mp4_inspect.specs.FieldLines.{HasLine, IsLine, TellsLine};
 ghost use Rattle.mp4_inspect.specs.InTurn.{WritesInTurn, WritesOne};
-ghost use Rattle.mp4_inspect.specs.Json.{object_tokens};
 ghost use Rattle.mp4_shown.specs.Event.{shown_of};
 ghost use Rattle.mp4_shown.specs.declared.value.Value.{Value as AValue};
 

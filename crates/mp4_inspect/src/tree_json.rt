@@ -3,11 +3,10 @@
 ghost use Rattle.std.specs.Prelude.{◌≡◌, ℕ, ◌-◌, ◌+◌, ◌<◌, ◌^◌, min, List, [], ◌∷◌, ◌||◌, codes, IfOk, OnOk};
 ghost use Rattle.json.specs.Token.{Token, key, string};
 ghost use Rattle.mp4_content.specs.FaultText.{IsFaultText};
-ghost use Rattle.mp4_content.specs.Fields.{content_fields, json_view};
+ghost use Rattle.mp4_content.specs.Fields.{content_fields, json_view, object_tokens};
 ghost use Rattle.mp4_inspect.specs.Json.{number_member, head_tokens, type_token, fields_tokens, IsRest, end_tokens};
 ghost use Rattle.mp4_inspect.specs.Json.{levels_end};
 ghost use Rattle.mp4_inspect.specs.Json.{open_inside, open_after, box_tokens, IsShown, file_tokens, IsJson};
-ghost use Rattle.mp4_inspect.specs.Json.{object_tokens};
 ghost use Rattle.mp4_shown.specs.Event.{shown_of};
 ghost use Rattle.mp4_shown.specs.declared.value.Value.{Value};
 ghost use Rattle.mp4_shown_json.specs.Tokens.{Puts};

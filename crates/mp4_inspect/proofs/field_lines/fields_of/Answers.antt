@@ -2,9 +2,8 @@ use Rattle.std.proofs.Common.{◌≡◌, ℕ, List, [], ◌++◌, IsUtf8, ap, su
 use Rattle.json.specs.Lex.{tokens}
 use Rattle.json.specs.Print.{print}
 use Rattle.json.specs.Token.{Token}
-use Rattle.mp4_content.specs.Fields.{content_fields, json_view}
+use Rattle.mp4_content.specs.Fields.{content_fields, json_view, object_tokens}
 use Rattle.mp4_inspect.proofs.field_lines.fields_of.Goals as goal
-use Rattle.mp4_inspect.specs.Json.{object_tokens}
 use Rattle.mp4_shown.specs.Event.{shown_of}
 
 pub returns-clause-fields : goal.returns-clause-fields

@@ -1,4 +1,4 @@
-use Rattle.mp4_inspect.proofs.Json.{puts_object}
+use Rattle.mp4_content.proofs.ObjectText.{puts_fields}
 use Rattle.mp4_content.specs.Fields.{content_fields, json_view}
 use Rattle.mp4_inspect.proofs.tree_json.put_object.Goals as goal
 use Rattle.mp4_shown.specs.Event.{shown_of}
@@ -9,7 +9,7 @@ returns g c =
     record {
       fields = (
         rate,
-        puts_object
+        puts_fields
             (content_fields (g.B.BoxFields.shown json_view) c.args.is_quicktime c.args.content.now (shown_of rate))
             c.args.sink.now.out c.begin_object.new.self c.put_content.new.sink.out c.end_object.new.self
             (c.in_ok-begin_object.ensures.room.0, c.in_ok-begin_object.ensures.ok) handed
