@@ -7,7 +7,8 @@ use Rattle.std.proofs.lemmas.Bool.{le-ltb, lt-ltb}
 use Rattle.std.proofs.lemmas.Slice.Eq.{bytes_eq-Decides}
 use Rattle.mp4_check.specs.Unreadable.{fails, is_refused, is_unreadable, unread_what, unreadable}
 use Rattle.mp4_check.specs.declared.fault.What.{What}
-use Rattle.mp4_content.specs.Content.{Shows, ShowsAs, ShowsEnd, ShowsFront, ShowsKnown, is_faulty, leaf}
+use Rattle.mp4_content.specs.Content.{Shows, ShowsAs, ShowsEnd, ShowsFront, ShowsKnown, ShowsSmall}
+use Rattle.mp4_content.specs.Content.{is_faulty, leaf}
 use Rattle.mp4_content.specs.Kind.{kind_of}
 use Rattle.mp4_content.specs.declared.content.Content.{Content}
 use Rattle.mp4_content.specs.declared.content.Content.TheVariants as contents
@@ -23,11 +24,11 @@ use Rattle.mp4_walk.specs.declared.tree_box.TreeBox.{TreeBox}
 shows_is : {A : Type 0} (r : Reading A) (content : Content A) → is_refused content ≡ false → Shows r content
     → is_faulty content ≡ is_err r.outcome
 shows_is {A} r (contents.Known v) read h = sym (ap (λ (o : Result A Fault). is_err o) h)
-shows_is {A} r (contents.Faulty errors.IoError) read h = rw h refl
-shows_is {A} r (contents.Faulty (errors.InvalidData _)) read h = rw h refl
-shows_is {A} r (contents.Faulty (errors.BoxNotFound name)) read h = rw h refl
+shows_is {A} r (contents.Faulty errors.IoError) read (h, _) = rw h refl
+shows_is {A} r (contents.Faulty (errors.InvalidData _)) read (h, _) = rw h refl
+shows_is {A} r (contents.Faulty (errors.BoxNotFound name)) read (h, _) = rw h refl
 shows_is {A} r (contents.Faulty errors.OutOfMemory) read h = absurd cc
-shows_is {A} r (contents.Faulty _) read h = absurd h
+shows_is {A} r (contents.Faulty _) read (h, _) = absurd h
 shows_is {A} r contents.Boxes read h = absurd h
 shows_is {A} r contents.Deep read h = absurd h
 shows_is {A} r contents.Unread read h = absurd h
@@ -37,12 +38,20 @@ front_is : {A : Type 0} (kind : Kind) (least most : ℕ) (file : List ℕ) (x : 
     → ShowsFront kind least most file x content → is_faulty content ≡ ltb (x.length - x.header_length) least
 front_is kind least most file x (contents.Front k v) (_, enough, _) =
     let no = le-ltb (x.length - x.header_length) least enough in rw no refl
-front_is kind least most file x (contents.Faulty e) few =
+front_is kind least most file x (contents.Faulty e) (_, few) =
     let yes = lt-ltb (x.length - x.header_length) least few in rw yes refl
 front_is kind least most file x contents.Boxes h = absurd h
 front_is kind least most file x contents.Deep h = absurd h
 front_is kind least most file x contents.Unread h = absurd h
 front_is kind least most file x (contents.Known v) h = absurd h
+
+small_is : {A : Type 0} (content : Content A) → ShowsSmall content → is_faulty content ≡ true
+small_is (contents.Faulty e) h = refl
+small_is contents.Boxes h = absurd h
+small_is contents.Deep h = absurd h
+small_is contents.Unread h = absurd h
+small_is (contents.Known v) h = absurd h
+small_is (contents.Front k v) h = absurd h
 
 end_is : {A : Type 0} (file : List ℕ) (x : TreeBox) (content : Content A) → ShowsEnd file x content
     → is_faulty content ≡ not (bytes_eq (piece file x.position x.length) (0 ∷ 0 ∷ 0 ∷ 0 ∷ []))
@@ -74,7 +83,7 @@ module _ {A : Type 0} (known : BoxType → Bool) (reading : BoxType → List ℕ
   faulty_is kinds.Deep content read h = rw h refl
   faulty_is kinds.Unread content read h = rw h refl
   faulty_is kinds.Cut content read h = rw h refl
-  faulty_is kinds.Small content read h = h
+  faulty_is kinds.Small content read h = small_is content h
   faulty_is (kinds.Known name) content read h = known_is name content read h
   faulty_is kinds.Reference content read h = front_is kinds.Reference 4 0xFFFFFFFFFFFFFFFF file x content h
   faulty_is kinds.Full content read h = front_is kinds.Full 4 4 file x content h

@@ -5,3 +5,4 @@ pub mod JsonNumbers
 pub mod ObjectText
 pub mod OpenPaths
 pub mod PieceSteps
+pub mod SettingSteps

@@ -1,5 +1,5 @@
 -- Changes of values in JSON.
-use Rattle.std.specs.Prelude.{ℕ, zero, suc, ◌-◌, List, [], ◌∷◌, ◌++◌, length, nat_eq, take, codes}
+use Rattle.std.specs.Prelude.{◌≡◌, ℕ, zero, suc, ◌-◌, List, [], ◌∷◌, ◌++◌, length, nat_eq, take, codes}
 use Rattle.std.specs.Prelude.{Option, None, Some, Ok, Err, if◌then◌else◌}
 use Rattle.std.specs.List.{ends_with}
 use Rattle.json.specs.Json.{Json, string, array, object, Items, no_items, item, Members, member, document}
@@ -8,7 +8,9 @@ use Rattle.json.specs.Tree.{json_tokens}
 use Rattle.mp4_content.specs.Field.{Place, Named, Numbered, field_places}
 use Rattle.mp4_shown.specs.Object.{take_one, take_out, members_in}
 use Rattle.mp4_shown.specs.TakenRuns.{items_in}
-use Rattle.mp4_shown.specs.Taking.{Taking, ◌>>=◌}
+use Rattle.mp4_shown.specs.Taking.{IsRefusal, Taking, refused, ◌>>=◌}
+use Rattle.mp4_shown.specs.declared.taken.error.Error.{Error}
+use Rattle.mp4_shown.specs.declared.taken.error.Error.TheVariants as errors
 use Rattle.mp4_shown.specs.declared.taken.error.Reason.TheVariants.{Missing, NotJson}
 
 abbrev pub or_text : List ℕ → Option Json → Json
@@ -66,6 +68,17 @@ text_put_if None new j = Err ([], Missing)
 text_put_if (Some ps) new None = Err ([], NotJson)
 text_put_if (Some ps) new (Some j) = text_put ps new j
 
+-- any fault becomes that of a field: it is missing
+abbrev pub field_missing : {A : Type 0} → List ℕ → Taking A → Taking A
+field_missing field (Ok v) = Ok v
+field_missing field (Err fault) = refused field Missing
+
+-- an error, and what it becomes; memory may be refused for the name of the field
+abbrev pub BecomesMissing : List ℕ → Error → Error → Type 0
+BecomesMissing field errors.OutOfMemory e = e ≡ errors.OutOfMemory
+BecomesMissing field (errors.Refused refusal) e = IsRefusal e (field, Missing)
+
 -- a JSON text with a field set to what a text stands for
 abbrev pub set_text : List ℕ → List ℕ → List ℕ → Taking (List ℕ)
-set_text field value text = text_put_if (field_places field) (value_of value) (document text)
+set_text field value text =
+    field_missing field (text_put_if (field_places field) (value_of value) (document text))

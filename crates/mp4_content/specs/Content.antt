@@ -1,6 +1,6 @@
 -- The content of a box that is shown, by how the box is read, and whether it has a fault.
 use Rattle.std.specs.Prelude.{◌≡◌, ◌≢◌, ℕ, ◌+◌, ◌-◌, ◌<◌, ◌≤◌, min, Bool, true, false, List, [], ◌∷◌, length}
-use Rattle.std.specs.Prelude.{Ok, MatchBool}
+use Rattle.std.specs.Prelude.{Ok, MatchBool, codes}
 use Rattle.mp4_frame.specs.Heads.{header, header_length}
 use Rattle.mp4_frame.specs.Reading.{Reading, Refuses, ◌>>=◌}
 use Rattle.mp4_frame.specs.declared.box_type.BoxType.{BoxType}
@@ -22,10 +22,10 @@ abbrev pub is_faulty : {A : Type 0} → Content A → Bool
 is_faulty (contents.Faulty _) = true
 is_faulty _ = false
 
--- the content is the value of a reading, or its fault
+-- the content is the value of a reading, or its fault; memory that is refused is no fault
 abbrev pub Shows : {A : Type 0} → Reading A → Content A → Type 0
 Shows r (contents.Known v) = r.outcome ≡ Ok v
-Shows r (contents.Faulty e) = Refuses e r
+Shows r (contents.Faulty e) = Refuses e r × (e ≢ errors.OutOfMemory)
 Shows r _ = ⊥
 
 -- a box is read whole, if boxes with its name are
@@ -44,7 +44,8 @@ front bytes found most =
 abbrev pub ShowsFront : {A : Type 0} → Kind → ℕ → ℕ → List ℕ → TreeBox → Content A → Type 0
 ShowsFront kind least most bytes found (contents.Front k v) =
     (k ≡ kind) × (least ≤ found.length - found.header_length) × (v.items ≡ front bytes found most)
-ShowsFront kind least most bytes found (contents.Faulty e) = found.length - found.header_length < least
+ShowsFront kind least most bytes found (contents.Faulty e) =
+    (e ≡ errors.IoError) × (found.length - found.header_length < least)
 ShowsFront kind least most bytes found _ = ⊥
 
 -- the four zero bytes that end a box are shown, and other bytes are a fault
@@ -56,6 +57,11 @@ ShowsEnd bytes found (contents.Faulty e) =
     (e ≡ errors.IoError) × (piece bytes found.position found.length ≢ 0 ∷ 0 ∷ 0 ∷ 0 ∷ [])
 ShowsEnd bytes found _ = ⊥
 
+-- the fault of a box whose size is smaller than its header
+abbrev pub ShowsSmall : {A : Type 0} → Content A → Type 0
+ShowsSmall (contents.Faulty (errors.InvalidData text)) = text.now ≡ codes "box size too small"
+ShowsSmall _ = ⊥
+
 -- The content of a box that is shown, by how the box is read.
 abbrev pub ShowsAs : {A : Type 0} → (BoxType → Bool) → (BoxType → List ℕ → ℕ → ℕ → Reading A) → List ℕ → TreeBox → Kind
     → Content A → Type 0
@@ -63,7 +69,7 @@ ShowsAs known reading bytes found kinds.Boxes content = content ≡ contents.Box
 ShowsAs known reading bytes found kinds.Deep content = content ≡ contents.Deep
 ShowsAs known reading bytes found kinds.Unread content = content ≡ contents.Unread
 ShowsAs known reading bytes found kinds.Cut content = content ≡ contents.Faulty errors.IoError
-ShowsAs known reading bytes found kinds.Small content = is_faulty content ≡ true
+ShowsAs known reading bytes found kinds.Small content = ShowsSmall content
 ShowsAs known reading bytes found (kinds.Known name) content = ShowsKnown known reading name bytes found content
 ShowsAs known reading bytes found kinds.Reference content =
     ShowsFront kinds.Reference 4 0xFFFFFFFFFFFFFFFF bytes found content

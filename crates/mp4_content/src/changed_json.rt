@@ -1,36 +1,43 @@
 //! Changes values in JSON.
 
-ghost use Rattle.std.specs.Prelude.{◌≡◌, ◌≤◌, ◌++◌, IfOk, OnOk, Ok, Some, length, map, option_map, string_bytes};
+ghost use Rattle.std.specs.Prelude.{◌≡◌, ◌≤◌, ◌++◌, [], IfOk, OnOk, Some, length, map, option_map, string_bytes};
 ghost use Rattle.std.specs.List.{insert};
-ghost use Rattle.json.specs.Json.{array, document, member, object};
+ghost use Rattle.std.specs.Str.{IsUtf8};
+ghost use Rattle.json.specs.Json.{document, member, object};
 ghost use Rattle.json.specs.Tree.{HasNumbers, ItemsHaveNumbers, MembersHaveNumbers};
 ghost use Rattle.json.specs.Value.{items_view, value_view};
-ghost use Rattle.mp4_content.specs.ChangedJson.{before_hex, dropped, put_at, set_member, set_text, text_put};
-ghost use Rattle.mp4_content.specs.ChangedJson.{text_put_if, value_of};
+ghost use Rattle.mp4_content.specs.ChangedJson.{BecomesMissing, before_hex, dropped, put_at, set_member, set_text};
+ghost use Rattle.mp4_content.specs.ChangedJson.{text_put, text_put_if, value_of};
 ghost use Rattle.mp4_content.specs.Field.{place_of};
 ghost use Rattle.mp4_shown.specs.Object.{left};
+ghost use Rattle.mp4_shown.specs.TakenRuns.{items_in};
+ghost use Rattle.mp4_shown.specs.Taking.{TakesAs};
 
 use crate::field::{Step, steps_of};
 use json::{Scratch, Value, to_vec};
 use mp4_shown::taken::{Error, Object, Reason, Result, object_in, refuse, with_suffix};
-use std::alloc::Global;
+use std::alloc::{AllocError, Global};
 
 /// Returns the value that `text` is: that of a JSON text, or else the text itself.
-fn value_of<'a>(alloc: Global, text: &'a str, scratch: &'a mut Scratch) -> Result<Value<'a>>
+fn value_of<'a>(
+    alloc: Global,
+    text: &'a str,
+    scratch: &'a mut Scratch,
+) -> std::result::Result<Value<'a>, AllocError>
     ensures value { IfOk result (λ v. value_view v ≡ value_of text.now) }
     ensures numbers { IfOk result (λ v. HasNumbers (value_view v)) }
 {
     match Value::parse(alloc, text, scratch) {
         Ok(value) => Ok(value),
         Err(json::Error::Invalid) => Ok(Value::String(text)),
-        Err(_) => Err(Error::OutOfMemory),
+        Err(_) => Err(AllocError),
     }
 }
 
 /// Takes the member `name` out, if there is one.
 fn drop_member(alloc: Global, object: &mut Object<'_>, name: &str) -> Result<()>
     requires { MembersHaveNumbers (left object.old) }
-    ensures value { OnOk result (dropped name.now (left object.old) ≡ Ok (left object.new)) }
+    ensures value { TakesAs (λ _. left object.new) result (dropped name.now (left object.old)) }
     ensures numbers { OnOk result (MembersHaveNumbers (left object.new)) }
 {
     object.take_out(alloc, name)?;
@@ -40,7 +47,7 @@ fn drop_member(alloc: Global, object: &mut Object<'_>, name: &str) -> Result<()>
 /// Takes the member out that is called `name` and then `suffix`, if there is one.
 fn drop_beside(alloc: Global, object: &mut Object<'_>, name: &str, suffix: &str) -> Result<()>
     requires { MembersHaveNumbers (left object.old) }
-    ensures value { OnOk result (dropped (name.now ++ suffix.now) (left object.old) ≡ Ok (left object.new)) }
+    ensures value { TakesAs (λ _. left object.new) result (dropped (name.now ++ suffix.now) (left object.old)) }
     ensures numbers { OnOk result (MembersHaveNumbers (left object.new)) }
 {
     let name = with_suffix(alloc, name, suffix)?;
@@ -55,12 +62,16 @@ fn before_hex(name: &str) -> Option<&str>
 }
 
 /// Puts the member `name` before the others.
-fn put_first<'a>(object: &mut Object<'a>, name: &'a str, value: Value<'a>) -> Result<()>
+fn put_first<'a>(
+    object: &mut Object<'a>,
+    name: &'a str,
+    value: Value<'a>,
+) -> std::result::Result<(), AllocError>
     ensures { OnOk result (left object.new ≡ member name.now (value_view value.entry) (left object.old)) }
 {
     match object.members.insert(0, (name, value)) {
         Ok(()) => Ok(()),
-        Err(_) => Err(Error::OutOfMemory),
+        Err(_) => Err(AllocError),
     }
 }
 
@@ -74,8 +85,8 @@ fn set_member<'a>(
 ) -> Result<()>
     requires members { MembersHaveNumbers (left object.old) }
     requires new { HasNumbers (value_view new) }
-    ensures value { OnOk result
-        (set_member name.now (value_view new.entry) (left object.old) ≡ Ok (left object.new)) }
+    ensures value { TakesAs (λ _. left object.new) result
+        (set_member name.now (value_view new.entry) (left object.old)) }
     ensures numbers { OnOk result (MembersHaveNumbers (left object.new)) }
 {
     drop_member(alloc, object, name)?;
@@ -84,13 +95,14 @@ fn set_member<'a>(
     if let Some(text) = before_hex(name) {
         drop_member(alloc, object, text)?;
     }
-    put_first(object, name, new)
+    put_first(object, name, new)?;
+    Ok(())
 }
 
-/// Returns the items of the array `value`.
+/// Returns the items of the array `value`. Another value is refused.
 fn items_of<'a>(alloc: Global, value: Value<'a>) -> Result<Vec<Value<'a>>>
     requires { HasNumbers (value_view value) }
-    ensures value { IfOk result (λ items. value_view value.entry ≡ array (items_view items.items)) }
+    ensures value { TakesAs (λ items. items_view items.items) result (items_in [] (value_view value.entry)) }
     ensures numbers { IfOk result (λ items. ItemsHaveNumbers (items_view items.items)) }
 {
     match value {
@@ -110,17 +122,21 @@ fn whole<'a>(rest: Object<'a>) -> Value<'a>
 }
 
 /// Puts `item` before the item of the number `number`.
-fn put_item<'a>(items: &mut Vec<Value<'a>>, number: usize, item: Value<'a>) -> Result<()>
+fn put_item<'a>(
+    items: &mut Vec<Value<'a>>,
+    number: usize,
+    item: Value<'a>,
+) -> std::result::Result<(), AllocError>
     requires { number ≤ length items.old.items }
     ensures { OnOk result (items.new.items ≡ insert items.old.items number item.entry) }
 {
     match items.insert(number, item) {
         Ok(()) => Ok(()),
-        Err(_) => Err(Error::OutOfMemory),
+        Err(_) => Err(AllocError),
     }
 }
 
-/// Returns `value` with `new` at the end of `steps`.
+/// Returns `value` with `new` at the end of `steps`. It is refused if a step leads nowhere.
 fn put_at<'a>(
     alloc: Global,
     value: Value<'a>,
@@ -129,8 +145,8 @@ fn put_at<'a>(
 ) -> Result<Value<'a>>
     requires value { HasNumbers (value_view value) }
     requires new { HasNumbers (value_view new) }
-    ensures value { IfOk result (λ v. put_at (map place_of steps.now) (value_view new.entry) (value_view value.entry)
-        ≡ Ok (value_view v)) }
+    ensures value { TakesAs value_view result
+        (put_at (map place_of steps.now) (value_view new.entry) (value_view value.entry)) }
     ensures numbers { IfOk result (λ v. HasNumbers (value_view v)) }
 {
     let Some((step, rest)) = steps.split_first() else {
@@ -162,7 +178,9 @@ fn put_at<'a>(
 }
 
 /// Returns the error that memory is refused if `error` is this one, or else that the field `field` is missing.
-fn missing(alloc: Global, field: &str, error: Error) -> Error {
+fn missing(alloc: Global, field: &str, error: Error) -> Error
+    ensures { BecomesMissing field.now error result }
+{
     match error {
         Error::OutOfMemory => Error::OutOfMemory,
         Error::Refused(_) => refuse(alloc, field, Reason::Missing),
@@ -170,13 +188,11 @@ fn missing(alloc: Global, field: &str, error: Error) -> Error {
 }
 
 /// Returns the text of `bytes`, which are UTF-8.
-pub(crate) fn text_of(bytes: Vec<u8>) -> Result<String>
-    ensures { IfOk result (λ text. string_bytes text ≡ bytes.items) }
+pub(crate) fn text_of(bytes: Vec<u8>) -> String
+    requires { IsUtf8 bytes.items }
+    ensures { string_bytes result ≡ bytes.items }
 {
-    match String::from_utf8(bytes) {
-        Ok(text) => Ok(text),
-        Err(_) => Err(Error::OutOfMemory),
-    }
+    String::from_utf8(bytes).unwrap()
 }
 
 /// Returns the JSON text of `value` with `new` at the end of `steps`.
@@ -188,12 +204,12 @@ fn changed_text<'a>(
 ) -> Result<String>
     requires value { HasNumbers (value_view value) }
     requires new { HasNumbers (value_view new) }
-    ensures { IfOk result (λ text. text_put (map place_of steps.now) (value_view new.entry) (value_view value.entry)
-        ≡ Ok (string_bytes text)) }
+    ensures { TakesAs string_bytes result
+        (text_put (map place_of steps.now) (value_view new.entry) (value_view value.entry)) }
 {
     let changed = put_at(alloc, value, steps, new)?;
-    let text = text_of(to_vec(alloc, &changed)?)?;
-    Ok(text)
+    let bytes = to_vec(alloc, &changed)?;
+    Ok(text_of(bytes))
 }
 
 /// Returns the JSON text of `object` with what the text `value` stands for at the end of `steps`.
@@ -205,8 +221,8 @@ fn value_put<'a>(
     scratch: &'a mut Scratch,
 ) -> Result<String>
     requires { HasNumbers (value_view object) }
-    ensures { IfOk result (λ text. text_put (map place_of steps.now) (value_of value.now) (value_view object.entry)
-        ≡ Ok (string_bytes text)) }
+    ensures { TakesAs string_bytes result
+        (text_put (map place_of steps.now) (value_of value.now) (value_view object.entry)) }
 {
     let new = value_of(alloc, value, scratch)?;
     changed_text(alloc, object, steps, new)
@@ -220,19 +236,22 @@ fn set_at<'a>(
     value: &'a str,
     scratch: &'a mut Scratch,
 ) -> Result<String>
-    ensures { IfOk result (λ new. text_put_if (Some (map place_of steps.now)) (value_of value.now) (document text.now)
-        ≡ Ok (string_bytes new)) }
+    ensures { TakesAs string_bytes result
+        (text_put_if (Some (map place_of steps.now)) (value_of value.now) (document text.now)) }
 {
-    let Ok(object) = Value::parse(alloc, text, scratch) else {
-        return Err(Error::OutOfMemory);
+    let object = match Value::parse(alloc, text, scratch) {
+        Ok(object) => object,
+        Err(json::Error::Invalid) => return Err(refuse(alloc, "", Reason::NotJson)),
+        Err(_) => return Err(Error::OutOfMemory),
     };
     let mut beside = Scratch::new(alloc);
     value_put(alloc, object, steps, value, &mut beside)
 }
 
-/// Returns the JSON text `text` of an object with the field `field` set to what the text `value` stands for.
+/// Returns the JSON text `text` of an object with the field `field` set to what the text `value` stands for. Any
+/// refusal says that this field is missing.
 pub(crate) fn set_text(alloc: Global, text: &str, field: &str, value: &str) -> Result<String>
-    ensures { IfOk result (λ new. set_text field.now value.now text.now ≡ Ok (string_bytes new)) }
+    ensures { TakesAs string_bytes result (set_text field.now value.now text.now) }
 {
     let Some(steps) = steps_of(alloc, field)? else {
         return Err(refuse(alloc, field, Reason::Missing));

@@ -1,10 +1,13 @@
 //! Sets fields of a box: changes the JSON of its fields, and reads it back.
 
-ghost use Rattle.std.specs.Prelude.{◌≡◌, IfOk, IfSome, OnOk, Ok, string_bytes};
-ghost use Rattle.json.specs.Print.{print};
+ghost use Rattle.std.specs.Prelude.{◌≡◌, IfOk, IfSome, MatchResult, OnOk, string_bytes};
 ghost use Rattle.mp4_content.specs.Fields.{json_view, object_tokens};
-ghost use Rattle.mp4_content.specs.Setting.{IsBoxOf, SetsFields, SetsKnown, set_all};
+ghost use Rattle.mp4_content.specs.Setting.{IsBoxOf, IsNoBox, IsUnset, SetsFields, SetsKnown, SetsNone};
+ghost use Rattle.mp4_content.specs.Setting.{fields_text, reason_of, set_all};
+ghost use Rattle.mp4_content.specs.declared.setting.SetError.TheVariants.{Failed};
 ghost use Rattle.mp4_frame.specs.FourCC.{number_of};
+ghost use Rattle.mp4_io.specs.declared.failure.Failure.TheVariants.{Memory};
+ghost use Rattle.mp4_shown.specs.Taking.{TakesAs};
 ghost use Rattle.mp4_shown_json.specs.Tokens.{Puts};
 
 use crate::changed_json::{set_text, text_of};
@@ -47,18 +50,24 @@ pub enum SetError {
 }
 
 impl From<AllocError> for SetError {
+    ghost from_gives = { λ _ e. e ≡ Failed Memory };
+
     fn from(_error: AllocError) -> SetError {
         SetError::Failed(Failure::Memory)
     }
 }
 
 impl From<Failure> for SetError {
+    ghost from_gives = { λ failure e. e ≡ Failed failure };
+
     fn from(failure: Failure) -> SetError {
         SetError::Failed(failure)
     }
 }
 
 impl From<Error> for SetError {
+    ghost from_gives = { λ error e. e ≡ reason_of error };
+
     fn from(error: Error) -> SetError {
         match error {
             Error::OutOfMemory => SetError::Failed(Failure::Memory),
@@ -67,9 +76,10 @@ impl From<Error> for SetError {
     }
 }
 
-/// Returns the JSON text `text` of an object with the fields of `settings` set, one after the other.
+/// Returns the JSON text `text` of an object with the fields of `settings` set, one after the other. The first field
+/// that can't be set is refused.
 fn set_all(alloc: Global, text: String, settings: &[Setting]) -> Result<String>
-    ensures { IfOk result (λ new. set_all settings.now (string_bytes text) ≡ Ok (string_bytes new)) }
+    ensures { TakesAs string_bytes result (set_all settings.now (string_bytes text)) }
 {
     let mut text = text;
     for setting in settings {
@@ -94,36 +104,39 @@ fn put_object<B: BoxFields>(value: &B, sink: &mut JsonSink) -> mp4_show::Result<
 }
 
 /// Returns the JSON text of the fields of `value`.
-fn fields_text<B: BoxFields>(alloc: Global, value: &B) -> Result<String>
-    ensures { IfOk result (λ text. string_bytes text ≡ print (object_tokens (B.shown json_view value.now))) }
+fn fields_text<B: BoxFields>(alloc: Global, value: &B) -> std::result::Result<String, AllocError>
+    ensures { IfOk result (λ text. string_bytes text ≡ fields_text (B.shown json_view value.now)) }
 {
     let mut sink = JsonSink::new(alloc);
     put_object(value, &mut sink)?;
-    text_of(sink.into_text())
+    Ok(text_of(sink.into_text()))
 }
 
-/// Returns the bytes of the box with the code `code` whose JSON is `text`, or `None` if no type has this code.
+/// Returns the bytes of the box with the code `code` whose JSON is `text`. The error is `NoFields` if no type has this
+/// code, `Refused` if the text isn't that of such a box, and `TooLarge` if the box can't be written.
 fn bytes_of<B: FromJson + WriteBox>(
     alloc: Global,
     code: FourCC,
     text: &str,
-) -> std::result::Result<Option<Vec<u8>>, SetError>
-    ensures { IfOk result (λ found. IfSome found (λ bytes. IsBoxOf (B.FromJson.taken (number_of code)) B.format.bytes
-        text.now bytes.items)) }
+) -> std::result::Result<Vec<u8>, SetError>
+    ensures { MatchResult result
+        (λ bytes. IsBoxOf (B.FromJson.taken (number_of code)) B.format text.now bytes.items)
+        (IsNoBox (B.FromJson.taken (number_of code)) B.format text.now) }
 {
     let Some(value) = B::read_json(alloc, u32::from(code), text)? else {
-        return Ok(None);
+        return Err(SetError::NoFields);
     };
     let mut bytes = Vec::new(alloc);
     match value.write_box(&mut bytes) {
-        Ok(_) => Ok(Some(bytes)),
+        Ok(_) => Ok(bytes),
         Err(mp4_frame::Error::OutOfMemory) => Err(SetError::Failed(Failure::Memory)),
         Err(_) => Err(SetError::TooLarge),
     }
 }
 
 /// Returns the bytes of the box with the code `code` whose fields are those of `value` after `settings`. Its bytes are
-/// `own`, which have to be those in which its fields are written.
+/// `own`. The error is `OtherBytes` if its fields are written in other bytes, `Refused` if a field can't be set, or the
+/// error of `bytes_of` before or after the settings.
 fn set_known<B: FromJson + WriteBox + BoxFields>(
     alloc: Global,
     code: FourCC,
@@ -131,36 +144,41 @@ fn set_known<B: FromJson + WriteBox + BoxFields>(
     own: &[u8],
     settings: &[Setting],
 ) -> std::result::Result<Vec<u8>, SetError>
-    ensures { IfOk result (λ bytes. SetsKnown (B.FromJson.taken (number_of code)) B.format.bytes
-        (B.shown json_view value.now) own.now settings.now bytes.items) }
+    ensures { MatchResult result
+        (λ bytes. SetsKnown (B.FromJson.taken (number_of code)) B.format (B.shown json_view value.now) own.now
+        settings.now bytes.items)
+        (IsUnset (B.FromJson.taken (number_of code)) B.format (B.shown json_view value.now) own.now settings.now) }
 {
     let text = fields_text(alloc, value)?;
-    let Some(same) = bytes_of::<B>(alloc, code, text.as_str())? else {
-        return Err(SetError::NoFields);
-    };
+    let same = bytes_of::<B>(alloc, code, text.as_str())?;
     if same.as_slice() != own {
         return Err(SetError::OtherBytes);
     }
     let text = set_all(alloc, text, settings)?;
-    match bytes_of::<B>(alloc, code, text.as_str())? {
-        Some(bytes) => Ok(bytes),
-        None => Err(SetError::NoFields),
-    }
+    bytes_of::<B>(alloc, code, text.as_str())
 }
 
 /// Returns the bytes of the box `found` after `settings`, one after the other. They are those of the box that is read
 /// back from the JSON of its fields, in which the fields are set. What follows from such a field is left out of the
-/// JSON: its meaning, and the bytes beside it. Nothing else of the box changes: one that isn't written in its own bytes
-/// is refused.
+/// JSON: its meaning, and the bytes beside it. Nothing else of the box changes.
+///
+/// The error is:
+/// - `NoFields` if the box has no code, isn't read whole, or isn't read back from JSON;
+/// - `Faulty` if the box has a fault;
+/// - `OtherBytes` if the box isn't written in its own bytes;
+/// - `Refused` if a field can't be set, or the box can't have its value;
+/// - `TooLarge` if the box can't be written;
+/// - `Failed` if the file can't be read, or memory is refused.
 pub fn set_fields<B: Shown + FromJson + WriteBox, S: Source>(
     alloc: Global,
     walk: &mut BoxWalk<S>,
     found: &TreeBox,
     settings: &[Setting],
 ) -> std::result::Result<Vec<u8>, SetError>
-    ensures set { IfSome walk.old.bytes (λ file. IfOk result
-        (λ bytes. SetsFields B.known B.named_reading B.shown B.FromJson.taken B.format.bytes file found.now
-        settings.now bytes.items)) }
+    ensures set_or_reason { IfSome walk.old.bytes (λ file. MatchResult result
+        (λ bytes. SetsFields B.known B.named_reading B.shown B.FromJson.taken B.format file found.now settings.now
+        bytes.items)
+        (SetsNone B.known B.named_reading B.shown B.FromJson.taken B.format file found.now settings.now)) }
     ensures kept { walk.new ≡ walk.old }
 {
     let Some(code) = found.code else {

@@ -1,4 +1,5 @@
-use Rattle.std.proofs.Common.{◌≡◌, ◌<◌, ◌∷◌, ◌∙◌, length, map, Ok, List, ap, arith, rules, subst, sym}
+use Rattle.std.proofs.Common.{◌≡◌, ◌<◌, ◌≤◌, [], ◌∷◌, ◌∙◌, length, map, Ok, List, ap, arith, rules, subst, sym}
+use Rattle.std.proofs.lemmas.Result.{err_from_is_err_and}
 use Rattle.std.specs.List.{insert, remove}
 use Rattle.json.specs.Json.{Json, array}
 use Rattle.json.specs.Tree.{HasNumbers, ItemsHaveNumbers, MembersHaveNumbers}
@@ -8,7 +9,10 @@ use Rattle.mp4_content.specs.ChangedJson.{put_at}
 use Rattle.mp4_content.specs.Field.{place_of}
 use Rattle.mp4_content.specs.declared.field.Step.{Step}
 use Rattle.mp4_shown.specs.Object.{left}
-use Rattle.mp4_content.proofs.JsonChanges.{put_entry}
+use Rattle.mp4_shown.specs.Taking.{RefusedAs}
+use Rattle.mp4_shown.specs.TakingLaws.{refused_by}
+use Rattle.mp4_shown.specs.declared.taken.error.Reason.TheVariants.{Missing}
+use Rattle.mp4_content.proofs.JsonChanges.{no_entry, put_entry, refused_entry}
 use Rattle.mp4_content.proofs.JsonNumbers.{item_has, items_have, object_has, one_has}
 use Rattle.mp4_content.proofs.changed_json.+put_at.Goals.{
   else-is_empty+in_ok-inside-in-Member+in_ok-inside-in-Member-2+in_ok-put_first-in-Member,
@@ -53,6 +57,40 @@ returns-after-is_empty-clause-numbers t c =
           (w.in_ok-inside-in-Member-2.ensures.numbers, one.1))
     ] in
     subst HasNumbers (sym c.whole.ensures) members
+
+pub returns-then-number-len-clause-value : goal.returns-then-number-len-clause-value
+returns-then-number-len-clause-value t c =
+    let vs = c.in_ok-items-in-Entry.items.items in
+    let n = c.in-Entry.number in
+    let ps = map place_of c.in-Some.rest.now in
+    let new = value_view c.args.new in
+    let j = value_view c.args.value in
+    let more : length vs ≤ n = search rules in
+    refused_by c.refuse.result ([], Missing) (put_at (map place_of c.args.steps.now) new j) c.refuse.ensures
+    (ap (λ (ss : List Step). put_at (map place_of ss) new j) c.in-Some.ensures.cases.0
+    ∙ ap (λ (s : Step). put_at (place_of s ∷ ps) new j) c.in-Entry.is
+    ∙ no_entry n ps new j vs more c.in_ok-items-in-Entry.ensures.value)
+
+pub returns-in_err-inside-in-Entry-clause-value : goal.returns-in_err-inside-in-Entry-clause-value
+returns-in_err-inside-in-Entry-clause-value t c =
+    let vs = c.in_ok-items-in-Entry.items.items in
+    let n = c.in-Entry.number in
+    let ps = map place_of c.in-Some.rest.now in
+    let new = value_view c.args.new in
+    let j = value_view c.args.value in
+    let e = c.in_err-inside-in-Entry.field-0.0 in
+    let less : n < length vs = search rules in
+    let steps =
+    ap (λ (ss : List Step). put_at (map place_of ss) new j) c.in-Some.ensures.cases.0
+    ∙ ap (λ (s : Step). put_at (place_of s ∷ ps) new j) c.in-Entry.is in
+    let refused =
+    refused_entry e n ps new j vs c.remove-inside.result less c.in_ok-items-in-Entry.ensures.value
+    (subst (λ v. RefusedAs e (put_at ps new (value_view v))) c.remove-inside.ensures.value
+    c.in_err-inside-in-Entry.ensures.value) in
+    let p =
+    err_from_is_err_and c.from_residual-in_err-inside-in-Entry.result
+    c.from_residual-in_err-inside-in-Entry.ensures.1 in
+    rw (p.1, p.2) (subst (λ taking. RefusedAs e taking) (sym steps) refused)
 
 pub returns-in_ok-put_item-in-Entry-clause-value : goal.returns-in_ok-put_item-in-Entry-clause-value
 returns-in_ok-put_item-in-Entry-clause-value t c =
