@@ -22,3 +22,4 @@ pub mod RunSteps
 pub mod Origins
 pub mod CutTracks
 pub mod Moments
+pub mod ChunkSamples

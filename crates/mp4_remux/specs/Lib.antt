@@ -17,6 +17,7 @@ pub mod TrackLaws
 pub mod Groups
 pub mod Whole
 pub mod Carried
+pub mod KeptChunks
 pub mod Splices
 pub mod Spots
 pub mod Edits

@@ -74,7 +74,7 @@ fn check_tracks<S: Source, T: Source>(
 
 /// Checks that the new file, whose movie is `after`, keeps the media of the old file, whose movie is `before`. The new
 /// file is what `plan` spells out over the old file. No media data are read. Takes the memory of the fragments of both
-/// files, and of the sample tables of one track in both.
+/// files, and of the sample tables and the chunks of one track in both.
 pub fn keeps_media<S: Source, T: Source>(
     alloc: Global,
     before: &mut Movie<S>,

@@ -7,6 +7,7 @@ mod fragmented;
 mod groups;
 mod keeps;
 mod kept;
+mod kept_chunks;
 mod media;
 pub mod parts;
 pub mod pieces;

@@ -10,6 +10,7 @@ ghost use Rattle.mp4_remux.specs.Tracks.{IsGoing, number_of_track, teller_of};
 ghost use Rattle.mp4_remux.specs.Whole.{SameAnswer};
 
 use crate::kept::keeps_samples;
+use crate::kept_chunks::keeps_chunks;
 use crate::pieces::Plan;
 use crate::refusal::{Refusal, Stop, TrackPlace, in_track};
 use crate::track_samples::TrackSamples;
@@ -60,6 +61,7 @@ pub(crate) fn samples_in<'a>(
 
 /// Checks that a track has the same samples, by its tables and fragments in both files.
 fn check_samples(
+    alloc: Global,
     were: &Option<SampleBoxes>,
     are: &Option<SampleBoxes>,
     old: &[TrackFragment],
@@ -69,6 +71,9 @@ fn check_samples(
 ) -> Result<(), Stop>
     ensures { OnOk result (CarriesSamples plan.now were.now are.now old.now new.now) }
 {
+    if keeps_chunks(alloc, were, are, old, new, plan)? {
+        return Ok(());
+    }
     let before = samples_in(were, old, track)?;
     let after = samples_in(are, new, track)?;
     match keeps_samples(before, after, plan) {
@@ -208,5 +213,5 @@ pub fn check_track<S: Source, T: Source>(
     check_descriptions(alloc, before, after, number, track)?;
     let were = tables_of(alloc, before, number, track)?;
     let are = tables_of(alloc, after, number, track)?;
-    check_samples(&were, &are, old, new, plan, track)
+    check_samples(alloc, &were, &are, old, new, plan, track)
 }
